@@ -1,0 +1,4 @@
+pub mod Ledgers
+pub mod Hulls
+pub mod Selections
+pub mod Walks
