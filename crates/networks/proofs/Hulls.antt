@@ -37,7 +37,7 @@ module _ {S : Type 0} where
   last-is w (v ∷ ws) = last-is v ws
 
   last-of : (ws : List (Window S)) (m : ℕ) → m + 1 ≡ length ws
-    → getD ws m open-window .high ≡ getD (hull-windows ws) 0 open-window .high
+      → getD ws m open-window .high ≡ getD (hull-windows ws) 0 open-window .high
   last-of [] m e = refl
   last-of (w ∷ ws) m e =
       let h : m ≡ length ws = omega arith in
@@ -62,7 +62,7 @@ module _ {S : Type 0} (N : Network S) (k : ℕ) where
         ∙ ap (λ (c : Condition S). window-of c w .low) (sym hull-at)
 
     pub hull-high : (n : ℕ) → w ≡ 0 → n ≡ length (condition-at N k .windows) → 0 < n
-      → window-of (condition-at N k) (n - 1) .high ≡ window-of (condition-at (hulls N) k) w .high
+        → window-of (condition-at N k) (n - 1) .high ≡ window-of (condition-at (hulls N) k) w .high
     hull-high n e l h =
         last-of (condition-at N k .windows) (n - 1) (omega arith)
         ∙ ap (λ (v : ℕ). window-of (hull (condition-at N k)) v .high) (sym e)

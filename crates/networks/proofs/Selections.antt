@@ -20,15 +20,15 @@ use Rattle.networks.specs.Selection.{number-at, only, without-windows, selecte
 pub numbered : (ws : List ℕ) (k n : ℕ) → Some n ≡ number-at ws k → (k < length ws) × (n ≡ getD ws k 0)
 numbered ws k n e =
     elim (cases-lt k (length ws)) [
-      inl h ↦ (h, let f : Some n ≡ Some (getD ws k 0) = e ∙ cond-true _ (Some (getD ws k 0)) None (lt-ltb k (length ws) h) in cc)
-    | inr h ↦ absurd (let f : Some n ≡ None = e ∙ cond-false _ (Some (getD ws k 0)) None (le-ltb k (length ws) h) in grind arith)
+      | inl h ↦ (h, let f : Some n ≡ Some (getD ws k 0) = e ∙ cond-true _ (Some (getD ws k 0)) None (lt-ltb k (length ws) h) in cc)
+      | inr h ↦ absurd (let f : Some n ≡ None = e ∙ cond-false _ (Some (getD ws k 0)) None (le-ltb k (length ws) h) in grind arith)
     ]
 
 pub not-numbered : (ws : List ℕ) (k : ℕ) → None ≡ number-at ws k → length ws ≤ k
 not-numbered ws k e =
     elim (cases-lt k (length ws)) [
-      inl h ↦ absurd (let f : None ≡ Some (getD ws k 0) = e ∙ cond-true _ (Some (getD ws k 0)) None (lt-ltb k (length ws) h) in grind arith)
-    | inr h ↦ h
+      | inl h ↦ absurd (let f : None ≡ Some (getD ws k 0) = e ∙ cond-true _ (Some (getD ws k 0)) None (lt-ltb k (length ws) h) in grind arith)
+      | inr h ↦ h
     ]
 
 -- ---- the selected conditions
@@ -42,14 +42,14 @@ module _ {S : Type 0} where
   only-absent w = let h : 0 ≤ w = omega arith in rw (le-ltb w 0 h)
 
   in-numbers : (cs : List (Condition S)) (ws : List ℕ) (k : ℕ) → k < length ws
-    → getD (selected-conditions cs ws) k no-condition ≡ only (getD cs k no-condition) (getD ws k 0)
+      → getD (selected-conditions cs ws) k no-condition ≡ only (getD cs k no-condition) (getD ws k 0)
   in-numbers [] ws k h = only-absent (getD ws k 0)
   in-numbers (c ∷ cs) [] k h = absurd (omega arith)
   in-numbers (c ∷ cs) (w ∷ ws) zero h = refl
   in-numbers (c ∷ cs) (w ∷ ws) (suc k) h = in-numbers cs ws k (omega arith)
 
   past-numbers : (cs : List (Condition S)) (ws : List ℕ) (k : ℕ) → length ws ≤ k
-    → getD (selected-conditions cs ws) k no-condition ≡ without-windows (getD cs k no-condition)
+      → getD (selected-conditions cs ws) k no-condition ≡ without-windows (getD cs k no-condition)
   past-numbers [] ws k h = refl
   past-numbers (c ∷ cs) [] zero h = refl
   past-numbers (c ∷ cs) [] (suc k) h = past-numbers cs [] k (omega arith)
@@ -66,15 +66,15 @@ module _ {S : Type 0} (N : Network S) (ws : List ℕ) (k : ℕ) where
   pub selected-from : condition-at N k .from ≡ condition-at (selected N ws) k .from
   selected-from =
       elim (cases-lt k (length ws)) [
-        inl h ↦ ap (λ (c : Condition S). c .from) (sym (selected-in h))
-      | inr h ↦ ap (λ (c : Condition S). c .from) (sym (selected-past h))
+        | inl h ↦ ap (λ (c : Condition S). c .from) (sym (selected-in h))
+        | inr h ↦ ap (λ (c : Condition S). c .from) (sym (selected-past h))
       ]
 
   pub selected-to : condition-at N k .to ≡ condition-at (selected N ws) k .to
   selected-to =
       elim (cases-lt k (length ws)) [
-        inl h ↦ ap (λ (c : Condition S). c .to) (sym (selected-in h))
-      | inr h ↦ ap (λ (c : Condition S). c .to) (sym (selected-past h))
+        | inl h ↦ ap (λ (c : Condition S). c .to) (sym (selected-in h))
+        | inr h ↦ ap (λ (c : Condition S). c .to) (sym (selected-past h))
       ]
 
   -- ---- asked for window w
@@ -98,8 +98,8 @@ module _ {S : Type 0} (N : Network S) (ws : List ℕ) (k : ℕ) where
     pub second : k < length ws → (w ≡ 0 → ⊥) → open-window ≡ window-of (condition-at (selected N ws) k) w
     second h ne =
         elim (cases-lt (getD ws k 0) (length (condition-at N k .windows))) [
-          inl l ↦ let e = selected-one h l in past (omega arith)
-        | inr l ↦ let e = selected-none h l in past (omega arith)
+          | inl l ↦ let e = selected-one h l in past (omega arith)
+          | inr l ↦ let e = selected-none h l in past (omega arith)
         ]
 
     pub past-first : 0 < w → open-window ≡ window-of (condition-at (selected N ws) k) w
@@ -109,10 +109,10 @@ module _ {S : Type 0} (N : Network S) (ws : List ℕ) (k : ℕ) where
     pub selected-window : k < length ws → w ≡ 0 → window-of (condition-at N k) (getD ws k 0) ≡ window-of (condition-at (selected N ws) k) w
     selected-window h e =
         elim (cases-lt (getD ws k 0) (length (condition-at N k .windows))) [
-          inl l ↦ rw (e, selected-in h, lt-ltb (getD ws k 0) (length (condition-at N k .windows)) l)
-        | inr l ↦
-            let z = selected-none h l in
-            getD-past (condition-at N k .windows) (getD ws k 0) open-window l ∙ past (omega arith)
+          | inl l ↦ rw (e, selected-in h, lt-ltb (getD ws k 0) (length (condition-at N k .windows)) l)
+          | inr l ↦
+              let z = selected-none h l in
+              getD-past (condition-at N k .windows) (getD ws k 0) open-window l ∙ past (omega arith)
         ]
 
 -- ---- a list up to a place, another from there on
@@ -154,13 +154,13 @@ module _ {S : Type 0} (N : Network S) (ws : List ℕ) (place : ℕ) where
     pub chosen-from : condition-at (selected N ws) k .from ≡ condition-at (chosen N ws place) k .from
     chosen-from =
         elim (cases-lt k place) [
-          inl h ↦ ap (λ (c : Condition S). c .from) (sym (chosen-below h))
-        | inr h ↦ sym (selected-from N ws k) ∙ ap (λ (c : Condition S). c .from) (sym (chosen-above h ∙ hull-at N k))
+          | inl h ↦ ap (λ (c : Condition S). c .from) (sym (chosen-below h))
+          | inr h ↦ sym (selected-from N ws k) ∙ ap (λ (c : Condition S). c .from) (sym (chosen-above h ∙ hull-at N k))
         ]
 
     pub chosen-to : condition-at (selected N ws) k .to ≡ condition-at (chosen N ws place) k .to
     chosen-to =
         elim (cases-lt k place) [
-          inl h ↦ ap (λ (c : Condition S). c .to) (sym (chosen-below h))
-        | inr h ↦ sym (selected-to N ws k) ∙ ap (λ (c : Condition S). c .to) (sym (chosen-above h ∙ hull-at N k))
+          | inl h ↦ ap (λ (c : Condition S). c .to) (sym (chosen-below h))
+          | inr h ↦ sym (selected-to N ws k) ∙ ap (λ (c : Condition S). c .to) (sym (chosen-above h ∙ hull-at N k))
         ]

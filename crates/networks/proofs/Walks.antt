@@ -53,7 +53,7 @@ module _ {S : Type 0} (K : Kind S) where
 module _ {S : Type 0} (K : Kind S) (n k : ℕ) (cs : List (Condition S)) (all : Option Refusal)
     (so-far : conditions-refusal K n k (drop k cs) ≡ all) where
   refusal-here : k < length cs → conditions-refusal K n k (drop k cs)
-    ≡ or-else (condition-refusal K n k (getD cs k no-condition)) (conditions-refusal K n (k + 1) (drop (k + 1) cs))
+      ≡ or-else (condition-refusal K n k (getD cs k no-condition)) (conditions-refusal K n (k + 1) (drop (k + 1) cs))
   refusal-here h = at-drop-more (conditions-refusal K n k) cs k no-condition h
 
   pub none-here : k < length cs → condition-refusal K n k (getD cs k no-condition) ≡ None → conditions-refusal K n (k + 1) (drop (k + 1) cs) ≡ all
@@ -70,7 +70,7 @@ module _ {S : Type 0} (K : Kind S) (n k : ℕ) (cs : List (Condition S)) (all : 
 -- ---- the choice conditions from k on
 module _ {S : Type 0} (cs : List (Condition S)) (k : ℕ) where
   pub choices-more : k < length cs
-    → choices (drop k cs) ≡ cond (ltb 1 (length (getD cs k no-condition .windows))) 1 0 + choices (drop (k + 1) cs)
+      → choices (drop k cs) ≡ cond (ltb 1 (length (getD cs k no-condition .windows))) 1 0 + choices (drop (k + 1) cs)
   choices-more h = at-drop-more choices cs k no-condition h
 
   pub choices-all : length cs ≤ k → choices (drop k cs) ≡ 0

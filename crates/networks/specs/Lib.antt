@@ -5,4 +5,5 @@ pub mod Hull
 pub mod Plan
 pub mod Selection
 pub mod Refusal
+pub mod Legal
 pub mod Faults

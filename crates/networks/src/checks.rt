@@ -1,12 +1,14 @@
 // The checks 1 to 8, in their order: the first refusal that the rules give, or none.
 ghost use mathlib.Core.Path.{_≡_};
-ghost use mathlib.Core.Bool.{not, _&&_};
+ghost use mathlib.Core.Bool.{true, not, _&&_};
 ghost use Prim.Native.Nat.{_+_, _*_, _<_};
 ghost use lib.Dec.{leb};
 ghost use lib.ListN.{length, drop};
 ghost use Rattle.networks.specs.Network.{condition-at, window-of};
 ghost use Rattle.networks.specs.Refusal.{points-refusal, small, all-small, in-order, below, before, rises, condition-refusal, conditions-refusal, choices, too-many, refuse-unless, network-refusal, dates-fit, memory-refusal, checks-refusal};
 ghost use Rattle.networks.specs.Faults.{refusal-in};
+ghost use Rattle.networks.specs.Legal.{Legal};
+ghost use Rattle.std.specs.Results.{isOk};
 use crate::fault::Fault;
 use crate::limits::LARGEST_END;
 use crate::limits::MOST_CHOICES;
@@ -27,7 +29,11 @@ pub struct Lent {
 fn check_points(points: usize) -> Result<(), Fault>
     ensures { λ r. ⌜ refusal-in r ≡ points-refusal points ⌝ }
 {
-    if points == 0 || points > MOST_POINTS { Err(Fault::Points) } else { Ok(()) }
+    if points == 0 || points > MOST_POINTS {
+        Err(Fault::Points)
+    } else {
+        Ok(())
+    }
 }
 
 fn is_small<S: Span>(end: Option<S>) -> bool
@@ -84,7 +90,11 @@ fn window_rises<T: Source>(source: &T, k: usize, w: usize, count: usize) -> bool
     if !is_in_order(source.low(k, w), high) {
         return false;
     }
-    if w + 1 < count { is_below(high, source.low(k, w + 1)) } else { true }
+    if w + 1 < count {
+        is_below(high, source.low(k, w + 1))
+    } else {
+        true
+    }
 }
 
 fn windows_rise<T: Source>(source: &T, k: usize) -> bool
@@ -151,7 +161,11 @@ fn count_choices<T: Source>(source: &T) -> usize
 fn check_choices(count: usize) -> Result<(), Fault>
     ensures { λ r. ⌜ refusal-in r ≡ refuse-unless (leb count 6) 7 0 ⌝ }
 {
-    if count > MOST_CHOICES { Err(Fault::Choices) } else { Ok(()) }
+    if count > MOST_CHOICES {
+        Err(Fault::Choices)
+    } else {
+        Ok(())
+    }
 }
 
 fn dates_fit(points: usize, dates: Option<usize>) -> bool
@@ -194,14 +208,17 @@ fn check_where<T: Source>(source: &T, full: bool) -> Result<(), Fault>
 
 // The checks 1 to 7 of a source by itself.
 pub fn check_network<T: Source>(source: &T) -> Result<(), Fault>
-    ensures { λ r. ⌜ refusal-in r ≡ network-refusal (Span·Span .kind) (means (now (source .entry))) (too-many (means (now (source .entry)))) ⌝ }
+    ensures legal { λ r. ⌜ (isOk r ≡ true → Legal (Span·Span .kind) (means (now (source .entry)))) ⌝ }
+    ensures passes { λ r. ⌜ (Legal (Span·Span .kind) (means (now (source .entry))) → isOk r ≡ true) ⌝ }
+    ensures refusal { λ r. ⌜ refusal-in r ≡ network-refusal (Span·Span .kind) (means (now (source .entry))) (too-many (means (now (source .entry)))) ⌝ }
 {
     check_where(source, source.conditions() > MOST_CONDITIONS)
 }
 
 // The checks 1 to 8 of a source by itself, for a call that was lent so much memory.
 pub fn check<T: Source>(source: &T, lent: Lent) -> Result<(), Fault>
-    ensures { λ r. ⌜ refusal-in r ≡ checks-refusal (Span·Span .kind) (means (now (source .entry))) (too-many (means (now (source .entry)))) lent ⌝ }
+    ensures legal { λ r. ⌜ (isOk r ≡ true → Legal (Span·Span .kind) (means (now (source .entry)))) ⌝ }
+    ensures refusal { λ r. ⌜ refusal-in r ≡ checks-refusal (Span·Span .kind) (means (now (source .entry))) (too-many (means (now (source .entry)))) lent ⌝ }
 {
     check_network(source)?;
     check_memory(source.points(), lent)

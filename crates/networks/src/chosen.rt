@@ -24,7 +24,10 @@ pub trait ChosenOver<T: Source>: Source<Span = T::Span> {
 
 pub impl<T: Source> ChosenOver<T> for Chosen<T> as ChosenOverAny {
     fn over(under: T, windows: [u8; 64], place: usize) -> Chosen<T> {
-        Chosen { selected: Selected { under, windows }, place }
+        Chosen {
+            selected: Selected { under, windows },
+            place,
+        }
     }
 }
 

@@ -54,7 +54,12 @@ impl Fault {
         ensures { λ r. ⌜ r ≡ refusal-of self .detail ⌝ }
     {
         match self {
-            Fault::Points | Fault::Full | Fault::Choices | Fault::Memory | Fault::Absent | Fault::NoPlan => 0,
+            Fault::Points
+            | Fault::Full
+            | Fault::Choices
+            | Fault::Memory
+            | Fault::Absent
+            | Fault::NoPlan => 0,
             Fault::Ends(k) | Fault::WindowCount(k) | Fault::EndSize(k) | Fault::WindowOrder(k) => k,
             Fault::Cycle(edges) => edges,
             Fault::Text(place) => place,

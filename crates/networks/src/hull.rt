@@ -51,6 +51,10 @@ pub impl<T: Source> Source for Hull<T> as HullSource {
 
     fn high(&self, k: usize, w: usize) -> Option<T::Span> {
         let n = self.under.windows(k);
-        if w == 0 && n > 0 { self.under.high(k, n - 1) } else { None }
+        if w == 0 && n > 0 {
+            self.under.high(k, n - 1)
+        } else {
+            None
+        }
     }
 }

@@ -25,7 +25,14 @@ pub struct Row<S> {
 fn window_at<S: Span>(windows: &[Window<S>], w: usize) -> Window<S>
     ensures { λ r. ⌜ r ≡ getD (now (windows .entry)) w open-window ⌝ }
 {
-    if w < windows.len() { windows[w] } else { Window { low: None, high: None } }
+    if w < windows.len() {
+        windows[w]
+    } else {
+        Window {
+            low: None,
+            high: None,
+        }
+    }
 }
 
 impl<S: Span> Row<S> {
@@ -50,14 +57,20 @@ impl<S: Span> Row<S> {
         ensures { λ r. ⌜ r ≡ window-of (row-condition (now (self .entry))) w ⌝ }
     {
         if w >= self.count {
-            return Window { low: None, high: None };
+            return Window {
+                low: None,
+                high: None,
+            };
         }
         match w {
             0 => self.first,
             1 => self.second,
             2 => self.third,
             3 => self.fourth,
-            _ => Window { low: None, high: None },
+            _ => Window {
+                low: None,
+                high: None,
+            },
         }
     }
 }
@@ -94,22 +107,42 @@ pub impl<S: Span> Source for Rows<'_, S> as RowsSource {
     }
 
     fn from(&self, k: usize) -> usize {
-        if k < self.rows.len() { self.rows[k].from } else { 0 }
+        if k < self.rows.len() {
+            self.rows[k].from
+        } else {
+            0
+        }
     }
 
     fn to(&self, k: usize) -> usize {
-        if k < self.rows.len() { self.rows[k].to } else { 0 }
+        if k < self.rows.len() {
+            self.rows[k].to
+        } else {
+            0
+        }
     }
 
     fn windows(&self, k: usize) -> usize {
-        if k < self.rows.len() { self.rows[k].count } else { 0 }
+        if k < self.rows.len() {
+            self.rows[k].count
+        } else {
+            0
+        }
     }
 
     fn low(&self, k: usize, w: usize) -> Option<S> {
-        if k < self.rows.len() { self.rows[k].window(w).low } else { None }
+        if k < self.rows.len() {
+            self.rows[k].window(w).low
+        } else {
+            None
+        }
     }
 
     fn high(&self, k: usize, w: usize) -> Option<S> {
-        if k < self.rows.len() { self.rows[k].window(w).high } else { None }
+        if k < self.rows.len() {
+            self.rows[k].window(w).high
+        } else {
+            None
+        }
     }
 }

@@ -28,7 +28,11 @@ impl<T: Source> Selected<T> {
         ensures { λ r. ⌜ r ≡ number-at (now (self .entry) .windows) k ⌝ }
     {
         let numbers: &[u8] = &self.windows;
-        if k < numbers.len() { Some(numbers[k] as usize) } else { None }
+        if k < numbers.len() {
+            Some(numbers[k] as usize)
+        } else {
+            None
+        }
     }
 }
 

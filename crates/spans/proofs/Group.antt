@@ -64,26 +64,26 @@ module _ {S : Type 0} {K : Kind S} (laws : Laws S K) where
 
   -- ---- sums and order
   pub lt-plus : (a b c : S) → K .size a + K .size c ≤ reach → K .size b + K .size c ≤ reach
-    → a <⟨ K ⟩ b → (a ⊕⟨ K ⟩ c) <⟨ K ⟩ (b ⊕⟨ K ⟩ c)
+      → a <⟨ K ⟩ b → (a ⊕⟨ K ⟩ c) <⟨ K ⟩ (b ⊕⟨ K ⟩ c)
   lt-plus a b c h k l = laws .sum-keeps-order a b c _ _ l (sum-some a c h) (sum-some b c k)
 
   pub le-plus : (a b c : S) → K .size a + K .size c ≤ reach → K .size b + K .size c ≤ reach
-    → a ≤⟨ K ⟩ b → (a ⊕⟨ K ⟩ c) ≤⟨ K ⟩ (b ⊕⟨ K ⟩ c)
+      → a ≤⟨ K ⟩ b → (a ⊕⟨ K ⟩ c) ≤⟨ K ⟩ (b ⊕⟨ K ⟩ c)
   le-plus a b c h k l =
       elim (le-cases laws l) [ inl s ↦ lt-le laws (lt-plus a b c h k s) | inr e ↦ le-of-eq laws (ap (λ (x : S). x ⊕⟨ K ⟩ c) e) ]
 
   pub le-sums : (a b c d : S) → K .size a + K .size c ≤ reach → K .size b + K .size c ≤ reach → K .size b + K .size d ≤ reach
-    → a ≤⟨ K ⟩ b → c ≤⟨ K ⟩ d → (a ⊕⟨ K ⟩ c) ≤⟨ K ⟩ (b ⊕⟨ K ⟩ d)
+      → a ≤⟨ K ⟩ b → c ≤⟨ K ⟩ d → (a ⊕⟨ K ⟩ c) ≤⟨ K ⟩ (b ⊕⟨ K ⟩ d)
   le-sums a b c d h k m p q =
       le-trans laws (le-plus a b c h k p)
       (rw (comm b c k, comm b d m) (le-plus c d b (omega arith) (omega arith) q))
 
   pub le-cancel : (a b c : S) → K .size a + K .size c ≤ reach → K .size b + K .size c ≤ reach
-    → (a ⊕⟨ K ⟩ c) ≤⟨ K ⟩ (b ⊕⟨ K ⟩ c) → a ≤⟨ K ⟩ b
+      → (a ⊕⟨ K ⟩ c) ≤⟨ K ⟩ (b ⊕⟨ K ⟩ c) → a ≤⟨ K ⟩ b
   le-cancel a b c h k l = refuted _ (λ s. both-ways _ l (lt-plus b a c k h s))
 
   pub cancel : (a b c : S) → K .size a + K .size c ≤ reach → K .size b + K .size c ≤ reach
-    → a ⊕⟨ K ⟩ c ≡ b ⊕⟨ K ⟩ c → a ≡ b
+      → a ⊕⟨ K ⟩ c ≡ b ⊕⟨ K ⟩ c → a ≡ b
   cancel a b c h k e = go (laws .compared a b)
     where
       go : Compared K a b → a ≡ b
@@ -101,9 +101,9 @@ module _ {S : Type 0} {K : Kind S} (laws : Laws S K) where
       let s₃ : K .size (⊖⟨ K ⟩ a) + K .size a ≤ reach = omega arith in
       let s₄ : K .size (⊖⟨ K ⟩ b) + K .size a ≤ reach = omega arith in
       refuted _ (λ s.
-        let low : (a ⊕⟨ K ⟩ (⊖⟨ K ⟩ b)) ≤⟨ K ⟩ K .zero = rw (inverse-right b k) at (le-plus a b (⊖⟨ K ⟩ b) s₁ s₂ l) in
-        let high : K .zero <⟨ K ⟩ ((⊖⟨ K ⟩ b) ⊕⟨ K ⟩ a) = rw (inverse-left a h) at (lt-plus (⊖⟨ K ⟩ a) (⊖⟨ K ⟩ b) a s₃ s₄ s) in
-        both-ways _ low (rw (comm (⊖⟨ K ⟩ b) a s₄) at high))
+      let low : (a ⊕⟨ K ⟩ (⊖⟨ K ⟩ b)) ≤⟨ K ⟩ K .zero = rw (inverse-right b k) at (le-plus a b (⊖⟨ K ⟩ b) s₁ s₂ l) in
+      let high : K .zero <⟨ K ⟩ ((⊖⟨ K ⟩ b) ⊕⟨ K ⟩ a) = rw (inverse-left a h) at (lt-plus (⊖⟨ K ⟩ a) (⊖⟨ K ⟩ b) a s₃ s₄ s) in
+      both-ways _ low (rw (comm (⊖⟨ K ⟩ b) a s₄) at high))
 
   pub opposite-opposite : (a : S) → 2 * K .size a ≤ reach → ⊖⟨ K ⟩ (⊖⟨ K ⟩ a) ≡ a
   opposite-opposite a h =

@@ -79,11 +79,11 @@ module _ {A B : Type 0} (KA : Kind A) (KB : Kind B) where
         (rw e (le-refl la)) (rw e (le-refl la)) h
 
     less-ways : (p q : Pair A B) → pair-less KA KB p q ≡ true
-      → (KA .less (p .first) (q .first) ≡ true) ⊎ ((p .first ≡ q .first) × (KB .less (p .second) (q .second) ≡ true))
+        → (KA .less (p .first) (q .first) ≡ true) ⊎ ((p .first ≡ q .first) × (KB .less (p .second) (q .second) ≡ true))
     less-ways p q h =
         elim (decided (KA .less (p .first) (q .first)) (KA .less (q .first) (p .first)) (KB .less (p .second) (q .second)) h) [
-          inl l ↦ inl l
-        | inr w ↦ inr (le-antisym la (w .1) (w .0), w .2)
+          | inl l ↦ inl l
+          | inr w ↦ inr (le-antisym la (w .1) (w .0), w .2)
         ]
 
     never-itself : (p : Pair A B) → pair-less KA KB p p ≡ true → ⊥
@@ -92,24 +92,24 @@ module _ {A B : Type 0} (KA : Kind A) (KB : Kind B) where
     over : (p q r : Pair A B) → pair-less KA KB p q ≡ true → pair-less KA KB q r ≡ true → pair-less KA KB p r ≡ true
     over p q r h k =
         elim (less-ways p q h) [
-          inl l ↦ elim (less-ways q r k) [
-            inl m ↦ less-by-first p r (la .carries-over _ _ _ l m)
-          | inr m ↦ less-by-first p r (rw (m .0) at l)
+          | inl l ↦ elim (less-ways q r k) [
+            | inl m ↦ less-by-first p r (la .carries-over _ _ _ l m)
+            | inr m ↦ less-by-first p r (rw (m .0) at l)
           ]
-        | inr l ↦ elim (less-ways q r k) [
-            inl m ↦ less-by-first p r (rw (l .0) m)
-          | inr m ↦ less-by-second p r (l .0 ∙ m .0) (lb .carries-over _ _ _ (l .1) (m .1))
+          | inr l ↦ elim (less-ways q r k) [
+            | inl m ↦ less-by-first p r (rw (l .0) m)
+            | inr m ↦ less-by-second p r (l .0 ∙ m .0) (lb .carries-over _ _ _ (l .1) (m .1))
           ]
         ]
 
     three-second : (p q : Pair A B) → p .first ≡ q .first → Compared KB (p .second) (q .second)
-      → (pair-less KA KB p q ≡ true) ⊎ ((p ≡ q) ⊎ (pair-less KA KB q p ≡ true))
+        → (pair-less KA KB p q ≡ true) ⊎ ((p ≡ q) ⊎ (pair-less KA KB q p ≡ true))
     three-second p q e (is-less h n k) = inl (less-by-second p q e h)
     three-second p q e (is-same h n k) = inr (inl (same-pair p q e n))
     three-second p q e (is-greater h n k) = inr (inr (less-by-second q p (sym e) k))
 
     three : (p q : Pair A B) → Compared KA (p .first) (q .first)
-      → (pair-less KA KB p q ≡ true) ⊎ ((p ≡ q) ⊎ (pair-less KA KB q p ≡ true))
+        → (pair-less KA KB p q ≡ true) ⊎ ((p ≡ q) ⊎ (pair-less KA KB q p ≡ true))
     three p q (is-less h n k) = inl (less-by-first p q h)
     three p q (is-same h n k) = three-second p q n (lb .compared (p .second) (q .second))
     three p q (is-greater h n k) = inr (inr (less-by-first q p k))
@@ -121,22 +121,22 @@ module _ {A B : Type 0} (KA : Kind A) (KB : Kind B) where
       compared = λ p q. one-of-three (pair-kind KA KB) never-itself over p q (three p q (la .compared _ _));
       carries-over = over;
       commutes = λ p q x y h k. same-pair x y
-        (la .commutes _ _ _ _ (sum-first p q x h) (sum-first q p y k))
-        (lb .commutes _ _ _ _ (sum-second p q x h) (sum-second q p y k));
+          (la .commutes _ _ _ _ (sum-first p q x h) (sum-first q p y k))
+          (lb .commutes _ _ _ _ (sum-second p q x h) (sum-second q p y k));
       associates = λ p q r pq qr x y h i j k. same-pair x y
-        (la .associates _ _ _ _ _ _ _ (sum-first p q pq h) (sum-first q r qr i) (sum-first pq r x j) (sum-first p qr y k))
-        (lb .associates _ _ _ _ _ _ _ (sum-second p q pq h) (sum-second q r qr i) (sum-second pq r x j) (sum-second p qr y k));
+          (la .associates _ _ _ _ _ _ _ (sum-first p q pq h) (sum-first q r qr i) (sum-first pq r x j) (sum-first p qr y k))
+          (lb .associates _ _ _ _ _ _ _ (sum-second p q pq h) (sum-second q r qr i) (sum-second pq r x j) (sum-second p qr y k));
       zero-adds-nothing = λ p x h. same-pair x p
-        (la .zero-adds-nothing _ _ (sum-first p _ x h)) (lb .zero-adds-nothing _ _ (sum-second p _ x h));
+          (la .zero-adds-nothing _ _ (sum-first p _ x h)) (lb .zero-adds-nothing _ _ (sum-second p _ x h));
       opposites-cancel = λ p q x h k. same-pair x _
-        (la .opposites-cancel _ _ _ (opposite-first p q h) (sum-first p q x k))
-        (lb .opposites-cancel _ _ _ (opposite-second p q h) (sum-second p q x k));
+          (la .opposites-cancel _ _ _ (opposite-first p q h) (sum-first p q x k))
+          (lb .opposites-cancel _ _ _ (opposite-second p q h) (sum-second p q x k));
       sum-keeps-order = λ p q r x y h i j. elim (less-ways p q h) [
-          inl l ↦ less-by-first x y (la .sum-keeps-order _ _ _ _ _ l (sum-first p r x i) (sum-first q r y j))
+        | inl l ↦ less-by-first x y (la .sum-keeps-order _ _ _ _ _ l (sum-first p r x i) (sum-first q r y j))
         | inr w ↦ less-by-second x y
             (let f = sum-first p r x i in let g = sum-first q r y j in let e = w .0 in cc)
             (lb .sum-keeps-order _ _ _ _ _ (w .1) (sum-second p r x i) (sum-second q r y j))
-        ];
+      ];
       zero-size = omega (arith, la .zero-size, lb .zero-size);
       opposite-size = λ p q h. omega (arith, la .opposite-size _ _ (opposite-first p q h), lb .opposite-size _ _ (opposite-second p q h));
       sum-size = λ p q x h. omega (arith, la .sum-size _ _ _ (sum-first p q x h), lb .sum-size _ _ _ (sum-second p q x h));
@@ -148,6 +148,6 @@ module _ {A B : Type 0} (KA : Kind A) (KB : Kind B) where
   pair-within wa wb = record {
     no-other-sum = λ p q h. leb-true _ _ (guard-test _ (both (KA .plus (p .first) (q .first)) (KB .plus (p .second) (q .second))) h);
     no-other-opposite = λ p h.
-      let t = there-both (KA .opposite (p .first)) (KB .opposite (p .second)) h in
-      omega (arith, wa .no-other-opposite (p .first) (t .0), wb .no-other-opposite (p .second) (t .1));
+        let t = there-both (KA .opposite (p .first)) (KB .opposite (p .second)) h in
+        omega (arith, wa .no-other-opposite (p .first) (t .0), wb .no-other-opposite (p .second) (t .1));
   }

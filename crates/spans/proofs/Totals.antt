@@ -42,11 +42,11 @@ module _ {S : Type 0} {K : Kind S} (laws : Laws S K) where
 
   -- one part more
   pub total-more : (xs : List S) (i : ℕ) (x : S) → i < length xs → x ≡ getD xs i x → sizes K xs ≤ reach
-    → K .plus (total K (take i xs)) x ≡ Some (total K (take (i + 1) xs))
+      → K .plus (total K (take i xs)) x ≡ Some (total K (take (i + 1) xs))
   total-more xs i x within read h =
       let pushed : take (i + 1) xs ≡ take i xs ++ (x ∷ []) = take-more xs i x within ∙ ap (λ (y : S). take i xs ++ (y ∷ [])) (sym read) in
       let fits : sizes K (take i xs) + (K .size x + 0) ≤ reach = omega (arith, sizes-take K (i + 1) xs, ap (sizes K) pushed, sizes-append K (take i xs) (x ∷ [])) in
       sum-some laws (total K (take i xs)) x (omega (arith, total-size (take i xs)))
       ∙ ap (λ (t : S). Some t) (sym (ap (total K) pushed
-        ∙ total-append (take i xs) (x ∷ []) fits
-        ∙ ap (λ (t : S). total K (take i xs) ⊕⟨ K ⟩ t) (zero-right laws x (omega arith))))
+      ∙ total-append (take i xs) (x ∷ []) fits
+      ∙ ap (λ (t : S). total K (take i xs) ⊕⟨ K ⟩ t) (zero-right laws x (omega arith))))

@@ -40,11 +40,11 @@ pub record Laws (S : Type 0) (K : Kind S) : Type 0 where
   -- sums
   pub commutes : (a b x y : S) → K .plus a b ≡ Some x → K .plus b a ≡ Some y → x ≡ y
   pub associates : (a b c ab bc x y : S) → K .plus a b ≡ Some ab → K .plus b c ≡ Some bc
-    → K .plus ab c ≡ Some x → K .plus a bc ≡ Some y → x ≡ y
+      → K .plus ab c ≡ Some x → K .plus a bc ≡ Some y → x ≡ y
   pub zero-adds-nothing : (a x : S) → K .plus a (K .zero) ≡ Some x → x ≡ a
   pub opposites-cancel : (a b x : S) → K .opposite a ≡ Some b → K .plus a b ≡ Some x → x ≡ K .zero
   pub sum-keeps-order : (a b c x y : S) → K .less a b ≡ true → K .plus a c ≡ Some x → K .plus b c ≡ Some y
-    → K .less x y ≡ true
+      → K .less x y ≡ true
   -- sizes
   pub zero-size : K .size (K .zero) ≡ 0
   pub opposite-size : (a b : S) → K .opposite a ≡ Some b → K .size b ≡ K .size a

@@ -11,7 +11,6 @@ infixl 60 _⊕⟨_⟩_
 infix 70 ⊖⟨_⟩_
 infix 40 _≤⟨_⟩_
 infix 40 _<⟨_⟩_
-
 abbrev pub _⊕⟨_⟩_ : {S : Type 0} → S → Kind S → S → S
 a ⊕⟨ K ⟩ b = valueOr (K .plus a b) (K .zero)
 

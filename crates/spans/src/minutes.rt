@@ -1,7 +1,6 @@
 // Minutes as a kind of spans.
 ghost use mathlib.Core.Path.{_≡_};
 ghost use Rattle.spans.specs.MinuteKind.{minute-kind};
-
 use crate::span::REACH;
 use crate::span::Span;
 
@@ -33,7 +32,9 @@ pub impl Span for Minutes as MinutesSpan {
         let a = self.count.unsigned_abs();
         let b = other.count.unsigned_abs();
         if a <= REACH && b <= REACH - a {
-            Some(Minutes { count: self.count + other.count })
+            Some(Minutes {
+                count: self.count + other.count,
+            })
         } else {
             None
         }

@@ -1,7 +1,6 @@
 // A pair of two kinds as a kind: the first part decides the order, the second one only among equals.
 ghost use mathlib.Core.Path.{_≡_};
 ghost use Rattle.spans.specs.PairKind.{pair-kind};
-
 use crate::minutes::Minutes;
 use crate::span::REACH;
 use crate::span::Span;
@@ -19,11 +18,17 @@ pub impl<A: Span, B: Span> Span for Pair<A, B> as PairSpan {
     ghost kind = { pair-kind (A·Span .kind) (B·Span .kind) };
 
     fn zero() -> Pair<A, B> {
-        Pair { first: A::zero(), second: B::zero() }
+        Pair {
+            first: A::zero(),
+            second: B::zero(),
+        }
     }
 
     fn step() -> Pair<A, B> {
-        Pair { first: A::zero(), second: B::step() }
+        Pair {
+            first: A::zero(),
+            second: B::step(),
+        }
     }
 
     fn size(self) -> u64 {

@@ -25,23 +25,36 @@ pub fn point_name(p: usize) -> &'static str {
 
 // From `low` to `high` minutes.
 pub fn minutes(low: i64, high: i64) -> Window<Minutes> {
-    Window { low: Some(Minutes { count: low }), high: Some(Minutes { count: high }) }
+    Window {
+        low: Some(Minutes { count: low }),
+        high: Some(Minutes { count: high }),
+    }
 }
 
 // At most `high` minutes: the low end is missing.
 pub fn at_most(high: i64) -> Window<Minutes> {
-    Window { low: None, high: Some(Minutes { count: high }) }
+    Window {
+        low: None,
+        high: Some(Minutes { count: high }),
+    }
 }
 
 // At least `low` minutes: the high end is missing.
 pub fn at_least(low: i64) -> Window<Minutes> {
-    Window { low: Some(Minutes { count: low }), high: None }
+    Window {
+        low: Some(Minutes { count: low }),
+        high: None,
+    }
 }
 
 pub fn brake_change() -> [Row<Minutes>; 8] {
     [
         // the berth's gaps: when the crane may be stopped
-        Row::new(0, 1, &[minutes(30, 90), minutes(600, 660), minutes(1320, 1400)]),
+        Row::new(
+            0,
+            1,
+            &[minutes(30, 90), minutes(600, 660), minutes(1320, 1400)],
+        ),
         Row::new(1, 2, &[minutes(0, 45)]),
         Row::new(2, 3, &[minutes(120, 180)]),
         Row::new(3, 4, &[minutes(150, 200)]),

@@ -35,22 +35,36 @@ use spans::MinutesSpan;
 use std::io;
 
 // Memory that suffices for 48 points.
-const AMPLE: Lent = Lent { matrix: 2304, cycle: 48, dates: Some(48) };
+const AMPLE: Lent = Lent {
+    matrix: 2304,
+    cycle: 48,
+    dates: Some(48),
+};
 
 // The hull of condition k of any source, asked of a layer over it.
 pub fn hull_of<T: Source>(source: &T, k: usize) -> Window<T::Span>
     ensures { λ r. ⌜ r ≡ window-of (condition-at (hulls (T·Source .means (now (source .entry)))) k) 0 ⌝ }
 {
     let hull = Hull::over(source);
-    Window { low: hull.low(k, 0), high: hull.high(k, 0) }
+    Window {
+        low: hull.low(k, 0),
+        high: hull.high(k, 0),
+    }
 }
 
-fn tell_condition<T: Source<Span = Minutes>>(rt: &LibcRuntime, source: &T, k: usize) -> io::Result<()> {
+fn tell_condition<T: Source<Span = Minutes>>(
+    rt: &LibcRuntime,
+    source: &T,
+    k: usize,
+) -> io::Result<()> {
     let from = point_name(source.from(k));
     let to = point_name(source.to(k));
     println!(rt, "  {k}: from '{from}' to '{to}'")?;
     for w in 0..source.windows(k) {
-        let window = Shown(Window { low: source.low(k, w), high: source.high(k, w) });
+        let window = Shown(Window {
+            low: source.low(k, w),
+            high: source.high(k, w),
+        });
         println!(rt, "       window {w}: {window}")?;
     }
     Ok(())
@@ -74,7 +88,10 @@ pub fn tell_conditions(rt: &LibcRuntime) -> io::Result<()> {
     let rows = brake_change();
     let job = Rows::from_rows(POINTS, &rows);
     let count = job.conditions();
-    println!(rt, "Its {count} conditions, each with the hull of its windows:")?;
+    println!(
+        rt,
+        "Its {count} conditions, each with the hull of its windows:"
+    )?;
     for k in 0..count {
         tell_condition(rt, &job, k)?;
         tell_hull(rt, &job, k)?;
@@ -88,20 +105,32 @@ fn tell_selection(rt: &LibcRuntime, gap: u8) -> io::Result<()> {
     let mut windows = [0u8; 64];
     windows[0] = gap;
     let selected = Selected::over(&job, windows);
-    println!(rt, "With window {gap} selected for condition 0, and window 0 for each other one, there is left of condition 0:")?;
+    println!(
+        rt,
+        "With window {gap} selected for condition 0, and window 0 for each other one, there is left of condition 0:"
+    )?;
     tell_condition(rt, &selected, 0)?;
     tell_hull(rt, &selected, 0)
 }
 
 pub fn tell_selections(rt: &LibcRuntime) -> io::Result<()> {
-    println!(rt, "The berth's gaps are a choice: a selection keeps one window of each condition.")?;
+    println!(
+        rt,
+        "The berth's gaps are a choice: a selection keeps one window of each condition."
+    )?;
     tell_selection(rt, 0)?;
     tell_selection(rt, 2)?;
     println!(rt, "A window that is not there leaves none:")?;
     tell_selection(rt, 3)
 }
 
-fn tell_check(rt: &LibcRuntime, what: &str, points: usize, rows: &[Row<Minutes>], lent: Lent) -> io::Result<()> {
+fn tell_check(
+    rt: &LibcRuntime,
+    what: &str,
+    points: usize,
+    rows: &[Row<Minutes>],
+    lent: Lent,
+) -> io::Result<()> {
     match check(&Rows::from_rows(points, rows), lent) {
         Ok(()) => println!(rt, "  {what}: passes"),
         Err(fault) => {
@@ -117,19 +146,67 @@ fn tell_bad_conditions(rt: &LibcRuntime) -> io::Result<()> {
     let to_nowhere = spoilt(1, Row::new(1, 7, &[minutes(0, 45)]));
     tell_check(rt, "condition 1 to a point 7", POINTS, &to_nowhere, AMPLE)?;
     let to_itself = spoilt(2, Row::new(2, 2, &[minutes(120, 180)]));
-    tell_check(rt, "condition 2 from a point to itself", POINTS, &to_itself, AMPLE)?;
+    tell_check(
+        rt,
+        "condition 2 from a point to itself",
+        POINTS,
+        &to_itself,
+        AMPLE,
+    )?;
     let no_window = spoilt(3, Row::new(3, 4, &[]));
-    tell_check(rt, "condition 3 without a window", POINTS, &no_window, AMPLE)?;
-    let five = [minutes(0, 1), minutes(3, 4), minutes(6, 7), minutes(9, 10), minutes(12, 13)];
-    tell_check(rt, "condition 3 with five windows", POINTS, &spoilt(3, Row::new(3, 4, &five)), AMPLE)?;
+    tell_check(
+        rt,
+        "condition 3 without a window",
+        POINTS,
+        &no_window,
+        AMPLE,
+    )?;
+    let five = [
+        minutes(0, 1),
+        minutes(3, 4),
+        minutes(6, 7),
+        minutes(9, 10),
+        minutes(12, 13),
+    ];
+    tell_check(
+        rt,
+        "condition 3 with five windows",
+        POINTS,
+        &spoilt(3, Row::new(3, 4, &five)),
+        AMPLE,
+    )?;
     let late = spoilt(7, Row::new(0, 6, &[at_most(16777217)]));
-    tell_check(rt, "condition 7 with an end of 16777217", POINTS, &late, AMPLE)?;
+    tell_check(
+        rt,
+        "condition 7 with an end of 16777217",
+        POINTS,
+        &late,
+        AMPLE,
+    )?;
     let upside_down = spoilt(4, Row::new(4, 5, &[minutes(60, 40)]));
-    tell_check(rt, "condition 4 from 60 down to 40", POINTS, &upside_down, AMPLE)?;
+    tell_check(
+        rt,
+        "condition 4 from 60 down to 40",
+        POINTS,
+        &upside_down,
+        AMPLE,
+    )?;
     let touching = spoilt(0, Row::new(0, 1, &[minutes(30, 90), minutes(90, 120)]));
-    tell_check(rt, "condition 0 with windows that touch", POINTS, &touching, AMPLE)?;
+    tell_check(
+        rt,
+        "condition 0 with windows that touch",
+        POINTS,
+        &touching,
+        AMPLE,
+    )?;
     let open_inside = spoilt(0, Row::new(0, 1, &[at_least(30), minutes(600, 660)]));
-    tell_check(rt, "condition 0 with a missing end inside", POINTS, &open_inside, AMPLE)
+    tell_check(
+        rt,
+        "condition 0 with a missing end inside",
+        POINTS,
+        &open_inside,
+        AMPLE,
+    )
 }
 
 fn tell_bad_points(rt: &LibcRuntime) -> io::Result<()> {
@@ -149,18 +226,37 @@ fn tell_too_many(rt: &LibcRuntime) -> io::Result<()> {
 
 fn tell_memory(rt: &LibcRuntime) -> io::Result<()> {
     let rows = brake_change();
-    let exact = Lent { matrix: 49, cycle: 7, dates: Some(7) };
+    let exact = Lent {
+        matrix: 49,
+        cycle: 7,
+        dates: Some(7),
+    };
     tell_check(rt, "memory of 49, 7 and 7 entries", POINTS, &rows, exact)?;
-    let matrix = Lent { matrix: 48, cycle: 7, dates: Some(7) };
+    let matrix = Lent {
+        matrix: 48,
+        cycle: 7,
+        dates: Some(7),
+    };
     tell_check(rt, "a matrix of 48 entries", POINTS, &rows, matrix)?;
-    let cycle = Lent { matrix: 49, cycle: 6, dates: Some(7) };
+    let cycle = Lent {
+        matrix: 49,
+        cycle: 6,
+        dates: Some(7),
+    };
     tell_check(rt, "a cycle memory of 6 entries", POINTS, &rows, cycle)?;
-    let dates = Lent { matrix: 49, cycle: 7, dates: Some(6) };
+    let dates = Lent {
+        matrix: 49,
+        cycle: 7,
+        dates: Some(6),
+    };
     tell_check(rt, "6 dates", POINTS, &rows, dates)
 }
 
 pub fn tell_checks(rt: &LibcRuntime) -> io::Result<()> {
-    println!(rt, "What the checks say, with the number and the detail of each refusal:")?;
+    println!(
+        rt,
+        "What the checks say, with the number and the detail of each refusal:"
+    )?;
     tell_check(rt, "the brake change", POINTS, &brake_change(), AMPLE)?;
     tell_bad_points(rt)?;
     tell_bad_conditions(rt)?;

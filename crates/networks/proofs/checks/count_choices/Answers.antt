@@ -16,12 +16,12 @@ loop-k-again g c =
     let more = choices-more (n .conditions) (c .loop-k .k) (omega (arith, c .conditions-k-end .ensures)) in
     let inv = c .loop-k .inv in
     elim (c .if-windows-gt1 .came) [
-      then-windows-gt1 w ↦
-        let one = cond-true {A = ℕ} _ 1 0 (lt-ltb 1 m (omega (arith, c .windows .ensures, w .if-windows-gt1 .taken))) in
-        (omega (arith, w .count-is), omega (arith, w .count-is, one, more))
-    | else-windows-gt1 w ↦
-        let none = cond-false {A = ℕ} _ 1 0 (le-ltb 1 m (omega (arith, c .windows .ensures, w .if-windows-gt1 .left))) in
-        (omega (arith, w .count-is), omega (arith, w .count-is, none, more))
+      | then-windows-gt1 w ↦
+          let one = cond-true {A = ℕ} _ 1 0 (lt-ltb 1 m (omega (arith, c .windows .ensures, w .if-windows-gt1 .taken))) in
+          (omega (arith, w .count-is), omega (arith, w .count-is, one, more))
+      | else-windows-gt1 w ↦
+          let none = cond-false {A = ℕ} _ 1 0 (le-ltb 1 m (omega (arith, c .windows .ensures, w .if-windows-gt1 .left))) in
+          (omega (arith, w .count-is), omega (arith, w .count-is, none, more))
     ]
 
 pub returns : need.returns

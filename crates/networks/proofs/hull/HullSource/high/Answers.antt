@@ -16,8 +16,8 @@ pub returns-else-w-eq0 : need.returns-else-w-eq0
 returns-else-w-eq0 g c =
     let n = g .T·Source .means (c .args .self .now .under) in
     elim (c .else-w-eq0 .came) [
-      else-w-eq0·by·then-w-eq0·else-n-gt0 w ↦
-        let z : length (condition-at n (c .args .k) .windows) ≤ 0 = omega (arith, c .windows-n .ensures, w .if-n-gt0 .left) in
-        ap (λ x. x .high) (hull-empty n (c .args .k) (c .args .w) z)
-    | else-w-eq0·by·else-w-eq0 w ↦ ap (λ x. x .high) (hull-second n (c .args .k) (c .args .w) (w .if-w-eq0 .left))
+      | else-w-eq0·by·then-w-eq0·else-n-gt0 w ↦
+          let z : length (condition-at n (c .args .k) .windows) ≤ 0 = omega (arith, c .windows-n .ensures, w .if-n-gt0 .left) in
+          ap (λ x. x .high) (hull-empty n (c .args .k) (c .args .w) z)
+      | else-w-eq0·by·else-w-eq0 w ↦ ap (λ x. x .high) (hull-second n (c .args .k) (c .args .w) (w .if-w-eq0 .left))
     ]

@@ -8,7 +8,12 @@ pub returns : need.returns
 returns g c =
     let ws = c .args .windows .now in
     let e : record {
-        from = c .args .from; to = c .args .to; count = length ws; first = c .window-at .result;
-        second = c .window-at-2 .result; third = c .window-at-3 .result; fourth = c .window-at-4 .result
-      } ≡ row-of (c .args .from) (c .args .to) ws = cc in
+      from = c .args .from;
+      to = c .args .to;
+      count = length ws;
+      first = c .window-at .result;
+      second = c .window-at-2 .result;
+      third = c .window-at-3 .result;
+      fourth = c .window-at-4 .result;
+    } ≡ row-of (c .args .from) (c .args .to) ws = cc in
     record { row = e; kept = λ h. ap row-condition e ∙ row-of-keeps (c .args .from) (c .args .to) ws h }
