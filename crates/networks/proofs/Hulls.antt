@@ -4,9 +4,9 @@ use mathlib.Core.List.{List, [], _∷_, map}
 use Prim.Native.Nat.{ℕ, zero, suc, _+_, _-_, _<_, _≤_}
 use native.Mathlib.Omega.{arith}
 use lib.ListN.{length, getD}
-use Rattle.std.proofs.shelf.Lists.{getD-past}
+use Rattle.std.proofs.shelf.Lists.{getD-past, length-map}
 use Rattle.networks.specs.declared.window.Window.{Window}
-use Rattle.networks.specs.Network.{Condition, Network, no-condition, open-window, condition-at, window-of}
+use Rattle.networks.specs.Network.{Condition, Network, Same-points, no-condition, open-window, condition-at, window-of}
 use Rattle.networks.specs.Hull.{last-high, hull-windows, hull, hulls}
 
 pub getD-map-same : {X Y : Type 0} (f : X → Y) (xs : List X) (k : ℕ) (d : X) → getD (map f xs) k (f d) ≡ f (getD xs k d)
@@ -47,6 +47,13 @@ module _ {S : Type 0} where
 module _ {S : Type 0} (N : Network S) (k : ℕ) where
   pub hull-at : condition-at (hulls N) k ≡ hull (condition-at N k)
   hull-at = getD-map-same hull (N .conditions) k no-condition
+
+  pub hull-points : Same-points (hulls N) N k
+  hull-points = record {
+    same-count = length-map (N .conditions) hull;
+    same-from = ap (λ (c : Condition S). c .from) hull-at;
+    same-to = ap (λ (c : Condition S). c .to) hull-at;
+  }
 
   pub hull-none : length (condition-at N k .windows) ≡ 0 → 0 ≡ length (condition-at (hulls N) k .windows)
   hull-none e = none _ e ∙ ap (λ (c : Condition S). length (c .windows)) (sym hull-at)

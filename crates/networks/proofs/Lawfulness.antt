@@ -58,23 +58,23 @@ module _ {S : Type 0} (K : Kind S) where
   end-small (Some a) h = le-leb (K .size a) largest-end (h a refl)
 
   lows-small : (ws : List (Window S)) → all-small K ws ≡ true
-    → (w : ℕ) (a : S) → getD ws w open-window .low ≡ Some a → K .size a ≤ largest-end
+      → (w : ℕ) (a : S) → getD ws w open-window .low ≡ Some a → K .size a ≤ largest-end
   lows-small [] h w a e = absurd (grind arith)
   lows-small (v ∷ ws) h zero a e =
       small-end (v .low) a (and-parts _ _ (and-parts _ (all-small K ws) h .0) .0) e
   lows-small (v ∷ ws) h (suc w) a e = lows-small ws (and-parts _ _ h .1) w a e
 
   highs-small : (ws : List (Window S)) → all-small K ws ≡ true
-    → (w : ℕ) (b : S) → getD ws w open-window .high ≡ Some b → K .size b ≤ largest-end
+      → (w : ℕ) (b : S) → getD ws w open-window .high ≡ Some b → K .size b ≤ largest-end
   highs-small [] h w b e = absurd (grind arith)
   highs-small (v ∷ ws) h zero b e =
       small-end (v .high) b (and-parts _ _ (and-parts _ (all-small K ws) h .0) .1) e
   highs-small (v ∷ ws) h (suc w) b e = highs-small ws (and-parts _ _ h .1) w b e
 
   small-from : (ws : List (Window S))
-    → ((w : ℕ) (a : S) → getD ws w open-window .low ≡ Some a → K .size a ≤ largest-end)
-    → ((w : ℕ) (b : S) → getD ws w open-window .high ≡ Some b → K .size b ≤ largest-end)
-    → all-small K ws ≡ true
+      → ((w : ℕ) (a : S) → getD ws w open-window .low ≡ Some a → K .size a ≤ largest-end)
+      → ((w : ℕ) (b : S) → getD ws w open-window .high ≡ Some b → K .size b ≤ largest-end)
+      → all-small K ws ≡ true
   small-from [] l h = refl
   small-from (v ∷ ws) l h =
       and-from _ _ (and-from _ _ (end-small (v .low) (l 0)) (end-small (v .high) (h 0)))
@@ -105,14 +105,14 @@ module _ {S : Type 0} (K : Kind S) where
       let s : h .0 ≡ b = cc in let t : h .1 ≡ a = cc in rw (s, t) at (h .4)
 
   rises-ordered : (ws : List (Window S)) → rises K ws ≡ true
-    → (w : ℕ) (a b : S) → getD ws w open-window .low ≡ Some a → getD ws w open-window .high ≡ Some b → K .less b a ≡ false
+      → (w : ℕ) (a b : S) → getD ws w open-window .low ≡ Some a → getD ws w open-window .high ≡ Some b → K .less b a ≡ false
   rises-ordered [] h w a b e f = absurd (grind arith)
   rises-ordered (v ∷ ws) h zero a b e f =
       order-kept (v .low) (v .high) a b (and-parts _ _ (and-parts _ (rises K ws) h .0) .0) e f
   rises-ordered (v ∷ ws) h (suc w) a b e f = rises-ordered ws (and-parts _ _ h .1) w a b e f
 
   rises-apart : (ws : List (Window S)) → rises K ws ≡ true
-    → (w : ℕ) → suc w < length ws → Apart K (getD ws w open-window .high) (getD ws (suc w) open-window .low)
+      → (w : ℕ) → suc w < length ws → Apart K (getD ws w open-window .high) (getD ws (suc w) open-window .low)
   rises-apart [] h w l = absurd (omega arith)
   rises-apart (v ∷ []) h w l = absurd (omega arith)
   rises-apart (v ∷ (u ∷ ws)) h zero l =
@@ -121,9 +121,9 @@ module _ {S : Type 0} (K : Kind S) where
       rises-apart (u ∷ ws) (and-parts _ (rises K (u ∷ ws)) h .1) w (omega arith)
 
   rises-from : (ws : List (Window S))
-    → ((w : ℕ) (a b : S) → getD ws w open-window .low ≡ Some a → getD ws w open-window .high ≡ Some b → K .less b a ≡ false)
-    → ((w : ℕ) → suc w < length ws → Apart K (getD ws w open-window .high) (getD ws (suc w) open-window .low))
-    → rises K ws ≡ true
+      → ((w : ℕ) (a b : S) → getD ws w open-window .low ≡ Some a → getD ws w open-window .high ≡ Some b → K .less b a ≡ false)
+      → ((w : ℕ) → suc w < length ws → Apart K (getD ws w open-window .high) (getD ws (suc w) open-window .low))
+      → rises K ws ≡ true
   rises-from [] o s = refl
   rises-from (v ∷ ws) o s =
       and-from _ _ (and-from _ _ (kept-order (v .low) (v .high) (o 0)) (next ws (s 0)))
@@ -166,14 +166,14 @@ module _ {S : Type 0} (K : Kind S) where
 
   -- ---- all conditions
   conditions-legal : (n k : ℕ) (cs : List (Condition S)) → conditions-refusal K n k cs ≡ None
-    → (m : ℕ) → m < length cs → Legal-condition K n (getD cs m no-condition)
+      → (m : ℕ) → m < length cs → Legal-condition K n (getD cs m no-condition)
   conditions-legal n k [] e m h = absurd (omega arith)
   conditions-legal n k (c ∷ cs) e zero h = condition-legal n k c (neither (condition-refusal K n k c) _ e .0)
   conditions-legal n k (c ∷ cs) e (suc m) h =
       conditions-legal n (k + 1) cs (neither (condition-refusal K n k c) _ e .1) m (omega arith)
 
   legal-conditions : (n k : ℕ) (cs : List (Condition S)) → ((m : ℕ) → m < length cs → Legal-condition K n (getD cs m no-condition))
-    → conditions-refusal K n k cs ≡ None
+      → conditions-refusal K n k cs ≡ None
   legal-conditions n k [] h = refl
   legal-conditions n k (c ∷ cs) h =
       both-none _ _ (legal-condition n k c (h 0 (omega arith))) (legal-conditions n (k + 1) cs (λ m l. h (suc m) (omega arith)))

@@ -8,7 +8,7 @@ use Rattle.std.proofs.shelf.Lists.{getD-map, getD-past, length-map, take-all, a
 use Rattle.networks.specs.declared.window.Window.{Window}
 use Rattle.networks.specs.declared.rows.Row.{Row}
 use Rattle.networks.specs.Network.{Condition, Network, no-condition, open-window, condition-at, window-of}
-use Rattle.networks.specs.Rows.{room, row-condition, rows-network, row-of}
+use Rattle.networks.specs.Rows.{room, row-condition, rows-network, row-of, Row-there, Row-absent}
 
 -- ---- a list filled up with its default
 module _ {X : Type 0} (d : X) where
@@ -49,11 +49,13 @@ module _ {S : Type 0} (r : Row S) where
 
 -- ---- the rows of a source
 module _ {S : Type 0} (n : ℕ) (rows : List (Row S)) (k : ℕ) where
-  pub row-there : (d : Row S) → k < length rows → row-condition (getD rows k d) ≡ condition-at (rows-network n rows) k
-  row-there d h = sym (getD-map row-condition rows k d no-condition h)
+  pub row-there : (d : Row S) → k < length rows → Row-there n rows k (getD rows k d)
+  row-there d h =
+      let e = getD-map row-condition rows k d no-condition h in
+      record { meant = e; counted = ap (λ (c : Condition S). length (c .windows)) e ∙ row-length (getD rows k d) }
 
-  pub row-absent : length rows ≤ k → no-condition ≡ condition-at (rows-network n rows) k
-  row-absent h = sym (getD-past (map row-condition rows) k no-condition (rw length-map h))
+  pub row-absent : length rows ≤ k → Row-absent n rows k
+  row-absent h = record { meant = getD-past (map row-condition rows) k no-condition (rw length-map h) }
 
 -- ---- the row of up to four windows
 short-row : {S : Type 0} (from to : ℕ) (ws : List (Window S)) → length ws ≤ 4

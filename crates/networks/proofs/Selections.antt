@@ -11,7 +11,7 @@ use Rattle.std.specs.declared.option.Option.the-variants.{Some, None}
 use Rattle.std.proofs.shelf.Lists.{getD-past, length-map}
 use Rattle.std.proofs.shelf.Tests.{lt-ltb, le-ltb, cases-lt, cond-true, cond-false}
 use Rattle.networks.specs.declared.window.Window.{Window}
-use Rattle.networks.specs.Network.{Condition, Network, no-condition, open-window, condition-at, window-of}
+use Rattle.networks.specs.Network.{Condition, Network, Same-points, no-condition, open-window, condition-at, window-of}
 use Rattle.networks.specs.Hull.{hull, hulls}
 use Rattle.networks.proofs.Hulls.{hull-at}
 use Rattle.networks.specs.Selection.{number-at, only, without-windows, selected-conditions, selected, chosen}
@@ -63,19 +63,26 @@ module _ {S : Type 0} (N : Network S) (ws : List ℕ) (k : ℕ) where
   pub selected-past : length ws ≤ k → condition-at (selected N ws) k ≡ without-windows (condition-at N k)
   selected-past = past-numbers (N .conditions) ws k
 
-  pub selected-from : condition-at N k .from ≡ condition-at (selected N ws) k .from
+  selected-from : condition-at N k .from ≡ condition-at (selected N ws) k .from
   selected-from =
       elim (cases-lt k (length ws)) [
         | inl h ↦ ap (λ (c : Condition S). c .from) (sym (selected-in h))
         | inr h ↦ ap (λ (c : Condition S). c .from) (sym (selected-past h))
       ]
 
-  pub selected-to : condition-at N k .to ≡ condition-at (selected N ws) k .to
+  selected-to : condition-at N k .to ≡ condition-at (selected N ws) k .to
   selected-to =
       elim (cases-lt k (length ws)) [
         | inl h ↦ ap (λ (c : Condition S). c .to) (sym (selected-in h))
         | inr h ↦ ap (λ (c : Condition S). c .to) (sym (selected-past h))
       ]
+
+  pub selected-points : Same-points (selected N ws) N k
+  selected-points = record {
+    same-count = selected-length (N .conditions) ws;
+    same-from = sym selected-from;
+    same-to = sym selected-to;
+  }
 
   -- ---- asked for window w
   pub selected-one : k < length ws → getD ws k 0 < length (condition-at N k .windows) → 1 ≡ length (condition-at (selected N ws) k .windows)
@@ -138,7 +145,7 @@ module _ {S : Type 0} (N : Network S) (ws : List ℕ) (place : ℕ) where
   same-length : length (selected N ws .conditions) ≡ length (hulls N .conditions)
   same-length = selected-length (N .conditions) ws ∙ sym (length-map (N .conditions) hull)
 
-  pub chosen-length : length (chosen N ws place .conditions) ≡ length (N .conditions)
+  chosen-length : length (chosen N ws place .conditions) ≡ length (N .conditions)
   chosen-length =
       let e = selected-length (N .conditions) ws in
       let f = length-map (N .conditions) hull in
@@ -151,16 +158,15 @@ module _ {S : Type 0} (N : Network S) (ws : List ℕ) (place : ℕ) where
     pub chosen-above : place ≤ k → condition-at (chosen N ws place) k ≡ condition-at (hulls N) k
     chosen-above h = from-place no-condition (selected N ws .conditions) (hulls N .conditions) place k same-length h
 
-    pub chosen-from : condition-at (selected N ws) k .from ≡ condition-at (chosen N ws place) k .from
-    chosen-from =
-        elim (cases-lt k place) [
-          | inl h ↦ ap (λ (c : Condition S). c .from) (sym (chosen-below h))
-          | inr h ↦ sym (selected-from N ws k) ∙ ap (λ (c : Condition S). c .from) (sym (chosen-above h ∙ hull-at N k))
-        ]
-
-    pub chosen-to : condition-at (selected N ws) k .to ≡ condition-at (chosen N ws place) k .to
-    chosen-to =
-        elim (cases-lt k place) [
-          | inl h ↦ ap (λ (c : Condition S). c .to) (sym (chosen-below h))
-          | inr h ↦ sym (selected-to N ws k) ∙ ap (λ (c : Condition S). c .to) (sym (chosen-above h ∙ hull-at N k))
-        ]
+    pub chosen-points : Same-points (chosen N ws place) N k
+    chosen-points = record {
+      same-count = chosen-length;
+      same-from = elim (cases-lt k place) [
+        | inl h ↦ ap (λ (c : Condition S). c .from) (chosen-below h) ∙ sym (selected-from N ws k)
+        | inr h ↦ ap (λ (c : Condition S). c .from) (chosen-above h ∙ hull-at N k)
+      ];
+      same-to = elim (cases-lt k place) [
+        | inl h ↦ ap (λ (c : Condition S). c .to) (chosen-below h) ∙ sym (selected-to N ws k)
+        | inr h ↦ ap (λ (c : Condition S). c .to) (chosen-above h ∙ hull-at N k)
+      ];
+    }

@@ -1,10 +1,11 @@
 -- What rows in memory mean. A row gives the number of its windows and has room for four; later ones lack both ends. Assumes nothing.
+use mathlib.Core.Path.{_≡_}
 use mathlib.Core.List.{List, [], _∷_, _++_, map}
 use Prim.Native.Nat.{ℕ, _-_}
 use lib.ListN.{length, getD, take, replicate}
 use Rattle.networks.specs.declared.window.Window.{Window}
 use Rattle.networks.specs.declared.rows.Row.{Row}
-use Rattle.networks.specs.Network.{Condition, Network, open-window}
+use Rattle.networks.specs.Network.{Condition, Network, no-condition, open-window, condition-at}
 
 module _ {S : Type 0} where
   -- the windows that a row has room for
@@ -32,3 +33,11 @@ module _ {S : Type 0} where
     third = getD ws 2 open-window;
     fourth = getD ws 3 open-window;
   }
+
+  -- What a look at rows finds: condition k is that of a row, which has as many windows as it claims; or there is no such row.
+  pub record Row-there (n : ℕ) (rows : List (Row S)) (k : ℕ) (r : Row S) : Type 0 where
+    pub meant : condition-at (rows-network n rows) k ≡ row-condition r
+    pub counted : length (condition-at (rows-network n rows) k .windows) ≡ r .count
+
+  pub record Row-absent (n : ℕ) (rows : List (Row S)) (k : ℕ) : Type 0 where
+    pub meant : condition-at (rows-network n rows) k ≡ no-condition

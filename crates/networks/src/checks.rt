@@ -206,13 +206,23 @@ fn check_where<T: Source>(source: &T, full: bool) -> Result<(), Fault>
     check_choices(count_choices(source))
 }
 
+// The same, where `full` goes by the limit alone: what passes is legal, and what is legal passes.
+fn check_whole<T: Source>(source: &T, full: bool) -> Result<(), Fault>
+    requires { ⌜ full ≡ too-many (T·Source .means (now source)) ⌝ }
+    ensures legal { λ r. ⌜ (isOk r ≡ true → Legal (Span·Span .kind) (means (now (source .entry)))) ⌝ }
+    ensures passes { λ r. ⌜ (Legal (Span·Span .kind) (means (now (source .entry))) → isOk r ≡ true) ⌝ }
+    ensures refusal { λ r. ⌜ refusal-in r ≡ network-refusal (Span·Span .kind) (means (now (source .entry))) (too-many (means (now (source .entry)))) ⌝ }
+{
+    check_where(source, full)
+}
+
 // The checks 1 to 7 of a source by itself.
 pub fn check_network<T: Source>(source: &T) -> Result<(), Fault>
     ensures legal { λ r. ⌜ (isOk r ≡ true → Legal (Span·Span .kind) (means (now (source .entry)))) ⌝ }
     ensures passes { λ r. ⌜ (Legal (Span·Span .kind) (means (now (source .entry))) → isOk r ≡ true) ⌝ }
     ensures refusal { λ r. ⌜ refusal-in r ≡ network-refusal (Span·Span .kind) (means (now (source .entry))) (too-many (means (now (source .entry)))) ⌝ }
 {
-    check_where(source, source.conditions() > MOST_CONDITIONS)
+    check_whole(source, source.conditions() > MOST_CONDITIONS)
 }
 
 // The checks 1 to 8 of a source by itself, for a call that was lent so much memory.

@@ -1,13 +1,13 @@
 // The layer of a selection made in part: the selected window of each condition below a place, the hull of each from there on.
 ghost use mathlib.Core.Path.{_≡_};
+ghost use lib.ListN.{length};
+ghost use Rattle.networks.specs.Network.{Same-points, condition-at, window-of};
 ghost use Rattle.networks.specs.Selection.{chosen};
-use crate::hull::Hull;
-use crate::hull::HullOver;
-use crate::hull::HullOverAny;
-use crate::hull::HullSource;
+use crate::hull::hull_high;
+use crate::hull::hull_low;
+use crate::hull::hull_windows;
 use crate::selected::Selected;
 use crate::selected::SelectedSource;
-use crate::source::LentSource;
 use crate::source::Source;
 
 #[derive(Drop)]
@@ -31,6 +31,47 @@ pub impl<T: Source> ChosenOver<T> for Chosen<T> as ChosenOverAny {
     }
 }
 
+impl<T: Source> Chosen<T> {
+    // The source below, whose condition k has the points of the layer's.
+    fn below(&self, k: usize) -> &T
+        ensures { λ r. ⌜ Same-points (chosen (T·Source .means (now (self .entry) .selected .under)) (now (self .entry) .selected .windows) (now (self .entry) .place)) (T·Source .means (now r)) k ⌝ }
+    {
+        &self.selected.under
+    }
+
+    // How many windows condition k has: as selected below the place, as its hull from there on.
+    fn mixed_windows(&self, k: usize) -> usize
+        ensures { λ r. ⌜ r ≡ length (condition-at (chosen (T·Source .means (now (self .entry) .selected .under)) (now (self .entry) .selected .windows) (now (self .entry) .place)) k .windows) ⌝ }
+    {
+        if k < self.place {
+            self.selected.windows(k)
+        } else {
+            hull_windows(&self.selected.under, k)
+        }
+    }
+
+    // Its ends likewise.
+    fn mixed_low(&self, k: usize, w: usize) -> Option<T::Span>
+        ensures { λ r. ⌜ r ≡ window-of (condition-at (chosen (T·Source .means (now (self .entry) .selected .under)) (now (self .entry) .selected .windows) (now (self .entry) .place)) k) w .low ⌝ }
+    {
+        if k < self.place {
+            self.selected.low(k, w)
+        } else {
+            hull_low(&self.selected.under, k, w)
+        }
+    }
+
+    fn mixed_high(&self, k: usize, w: usize) -> Option<T::Span>
+        ensures { λ r. ⌜ r ≡ window-of (condition-at (chosen (T·Source .means (now (self .entry) .selected .under)) (now (self .entry) .selected .windows) (now (self .entry) .place)) k) w .high ⌝ }
+    {
+        if k < self.place {
+            self.selected.high(k, w)
+        } else {
+            hull_high(&self.selected.under, k, w)
+        }
+    }
+}
+
 pub impl<T: Source> Source for Chosen<T> as ChosenSource {
     type Span = T::Span;
 
@@ -41,41 +82,26 @@ pub impl<T: Source> Source for Chosen<T> as ChosenSource {
     }
 
     fn conditions(&self) -> usize {
-        self.selected.conditions()
+        self.below(0).conditions()
     }
 
     fn from(&self, k: usize) -> usize {
-        self.selected.from(k)
+        self.below(k).from(k)
     }
 
     fn to(&self, k: usize) -> usize {
-        self.selected.to(k)
+        self.below(k).to(k)
     }
 
     fn windows(&self, k: usize) -> usize {
-        if k < self.place {
-            self.selected.windows(k)
-        } else {
-            let hull = Hull::over(&self.selected.under);
-            hull.windows(k)
-        }
+        self.mixed_windows(k)
     }
 
     fn low(&self, k: usize, w: usize) -> Option<T::Span> {
-        if k < self.place {
-            self.selected.low(k, w)
-        } else {
-            let hull = Hull::over(&self.selected.under);
-            hull.low(k, w)
-        }
+        self.mixed_low(k, w)
     }
 
     fn high(&self, k: usize, w: usize) -> Option<T::Span> {
-        if k < self.place {
-            self.selected.high(k, w)
-        } else {
-            let hull = Hull::over(&self.selected.under);
-            hull.high(k, w)
-        }
+        self.mixed_high(k, w)
     }
 }

@@ -1,5 +1,7 @@
 // The hull layer: each condition of the source below as its hull alone.
 ghost use mathlib.Core.Path.{_≡_};
+ghost use lib.ListN.{length};
+ghost use Rattle.networks.specs.Network.{Same-points, condition-at, window-of};
 ghost use Rattle.networks.specs.Hull.{hulls};
 use crate::source::Source;
 
@@ -20,6 +22,41 @@ pub impl<T: Source> HullOver<T> for Hull<T> as HullOverAny {
     }
 }
 
+// How many windows the hull of condition k has: none without windows, else one.
+pub(crate) fn hull_windows<T: Source>(under: &T, k: usize) -> usize
+    ensures { λ r. ⌜ r ≡ length (condition-at (hulls (T·Source .means (now (under .entry)))) k .windows) ⌝ }
+{
+    if under.windows(k) == 0 { 0 } else { 1 }
+}
+
+// The low end of the first window.
+pub(crate) fn hull_low<T: Source>(under: &T, k: usize, w: usize) -> Option<T::Span>
+    ensures { λ r. ⌜ r ≡ window-of (condition-at (hulls (T·Source .means (now (under .entry)))) k) w .low ⌝ }
+{
+    if w == 0 { under.low(k, 0) } else { None }
+}
+
+// The high end of the last window.
+pub(crate) fn hull_high<T: Source>(under: &T, k: usize, w: usize) -> Option<T::Span>
+    ensures { λ r. ⌜ r ≡ window-of (condition-at (hulls (T·Source .means (now (under .entry)))) k) w .high ⌝ }
+{
+    let n = under.windows(k);
+    if w == 0 && n > 0 {
+        under.high(k, n - 1)
+    } else {
+        None
+    }
+}
+
+impl<T: Source> Hull<T> {
+    // The source below, whose condition k has the points of the layer's.
+    fn below(&self, k: usize) -> &T
+        ensures { λ r. ⌜ Same-points (hulls (T·Source .means (now (self .entry) .under))) (T·Source .means (now r)) k ⌝ }
+    {
+        &self.under
+    }
+}
+
 pub impl<T: Source> Source for Hull<T> as HullSource {
     type Span = T::Span;
 
@@ -30,31 +67,26 @@ pub impl<T: Source> Source for Hull<T> as HullSource {
     }
 
     fn conditions(&self) -> usize {
-        self.under.conditions()
+        self.below(0).conditions()
     }
 
     fn from(&self, k: usize) -> usize {
-        self.under.from(k)
+        self.below(k).from(k)
     }
 
     fn to(&self, k: usize) -> usize {
-        self.under.to(k)
+        self.below(k).to(k)
     }
 
     fn windows(&self, k: usize) -> usize {
-        if self.under.windows(k) == 0 { 0 } else { 1 }
+        hull_windows(&self.under, k)
     }
 
     fn low(&self, k: usize, w: usize) -> Option<T::Span> {
-        if w == 0 { self.under.low(k, 0) } else { None }
+        hull_low(&self.under, k, w)
     }
 
     fn high(&self, k: usize, w: usize) -> Option<T::Span> {
-        let n = self.under.windows(k);
-        if w == 0 && n > 0 {
-            self.under.high(k, n - 1)
-        } else {
-            None
-        }
+        hull_high(&self.under, k, w)
     }
 }

@@ -4,7 +4,8 @@ ghost use Prim.Native.Nat.{_≤_};
 ghost use lib.ListN.{length, getD};
 ghost use denote.Ref.{now as behind};
 ghost use Rattle.networks.specs.Network.{Condition, Network, open-window, window-of};
-ghost use Rattle.networks.specs.Rows.{row-condition, row-of, rows-network};
+ghost use Rattle.networks.specs.Rows.{row-condition, row-of, rows-network, Row-there, Row-absent};
+ghost use Rattle.std.specs.Options.{Cases};
 use crate::source::Source;
 use crate::window::Window;
 use crate::window::WindowClone;
@@ -35,21 +36,29 @@ fn window_at<S: Span>(windows: &[Window<S>], w: usize) -> Window<S>
     }
 }
 
+// The row of these windows, the first four of them in its room.
+fn row_from<S: Span>(from: usize, to: usize, windows: &[Window<S>]) -> Row<S>
+    ensures row { λ r. ⌜ r ≡ row-of from to (now (windows .entry)) ⌝ }
+    ensures kept { λ r. ⌜ (length (now (windows .entry)) ≤ 4 → row-condition r ≡ record { from = from; to = to; windows = now (windows .entry) }) ⌝ }
+{
+    Row {
+        from,
+        to,
+        count: windows.len(),
+        first: window_at(windows, 0),
+        second: window_at(windows, 1),
+        third: window_at(windows, 2),
+        fourth: window_at(windows, 3),
+    }
+}
+
 impl<S: Span> Row<S> {
-    // The row of a condition with these windows. Up to four are kept; with more, the row has their number and no ends for the others.
+    // The row of a condition with these windows. Up to four are kept; with more, the row has their number and no ends past the fourth.
     pub fn new(from: usize, to: usize, windows: &[Window<S>]) -> Row<S>
         ensures row { λ r. ⌜ r ≡ row-of from to (now (windows .entry)) ⌝ }
         ensures kept { λ r. ⌜ (length (now (windows .entry)) ≤ 4 → row-condition r ≡ record { from = from; to = to; windows = now (windows .entry) }) ⌝ }
     {
-        Row {
-            from,
-            to,
-            count: windows.len(),
-            first: window_at(windows, 0),
-            second: window_at(windows, 1),
-            third: window_at(windows, 2),
-            fourth: window_at(windows, 3),
-        }
+        row_from(from, to, windows)
     }
 
     // Window w of the row, both ends missing where there is none.
@@ -93,6 +102,27 @@ pub impl<'a, S: Span> FromRows<'a> for Rows<'a, S> as RowsFromRows {
     }
 }
 
+impl<S: Span> Rows<'_, S> {
+    // All rows, one for each condition.
+    fn all(&self) -> &[Row<S>]
+        ensures { λ r. ⌜ length (now r) ≡ length (rows-network (now (self .entry) .points) (behind (now (self .entry) .rows)) .conditions) ⌝ }
+    {
+        self.rows
+    }
+
+    // The row of condition k, where it is there.
+    fn row(&self, k: usize) -> Option<&Row<S>>
+        ensures { λ r. ⌜ Cases r (Row-absent (now (self .entry) .points) (behind (now (self .entry) .rows)) k)
+            (λ row. Row-there (now (self .entry) .points) (behind (now (self .entry) .rows)) k (behind row)) ⌝ }
+    {
+        if k < self.rows.len() {
+            Some(&self.rows[k])
+        } else {
+            None
+        }
+    }
+}
+
 pub impl<S: Span> Source for Rows<'_, S> as RowsSource {
     type Span = S;
 
@@ -103,46 +133,41 @@ pub impl<S: Span> Source for Rows<'_, S> as RowsSource {
     }
 
     fn conditions(&self) -> usize {
-        self.rows.len()
+        self.all().len()
     }
 
     fn from(&self, k: usize) -> usize {
-        if k < self.rows.len() {
-            self.rows[k].from
-        } else {
-            0
+        match self.row(k) {
+            Some(row) => row.from,
+            None => 0,
         }
     }
 
     fn to(&self, k: usize) -> usize {
-        if k < self.rows.len() {
-            self.rows[k].to
-        } else {
-            0
+        match self.row(k) {
+            Some(row) => row.to,
+            None => 0,
         }
     }
 
     fn windows(&self, k: usize) -> usize {
-        if k < self.rows.len() {
-            self.rows[k].count
-        } else {
-            0
+        match self.row(k) {
+            Some(row) => row.count,
+            None => 0,
         }
     }
 
     fn low(&self, k: usize, w: usize) -> Option<S> {
-        if k < self.rows.len() {
-            self.rows[k].window(w).low
-        } else {
-            None
+        match self.row(k) {
+            Some(row) => row.window(w).low,
+            None => None,
         }
     }
 
     fn high(&self, k: usize, w: usize) -> Option<S> {
-        if k < self.rows.len() {
-            self.rows[k].window(w).high
-        } else {
-            None
+        match self.row(k) {
+            Some(row) => row.window(w).high,
+            None => None,
         }
     }
 }

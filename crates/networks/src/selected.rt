@@ -1,5 +1,7 @@
 // The selection layer: of each condition of the source below only the window that is selected for it.
 ghost use mathlib.Core.Path.{_≡_};
+ghost use lib.ListN.{length};
+ghost use Rattle.networks.specs.Network.{Same-points, condition-at, window-of};
 ghost use Rattle.networks.specs.Selection.{number-at, selected};
 use crate::source::Source;
 
@@ -23,6 +25,13 @@ pub impl<T: Source> SelectedOver<T> for Selected<T> as SelectedOverAny {
 }
 
 impl<T: Source> Selected<T> {
+    // The source below, whose condition k has the points of the layer's.
+    fn below(&self, k: usize) -> &T
+        ensures { λ r. ⌜ Same-points (selected (T·Source .means (now (self .entry) .under)) (now (self .entry) .windows)) (T·Source .means (now r)) k ⌝ }
+    {
+        &self.under
+    }
+
     // The number selected for condition k; none past the numbers.
     fn number(&self, k: usize) -> Option<usize>
         ensures { λ r. ⌜ r ≡ number-at (now (self .entry) .windows) k ⌝ }
@@ -32,6 +41,41 @@ impl<T: Source> Selected<T> {
             Some(numbers[k] as usize)
         } else {
             None
+        }
+    }
+
+    // How many windows condition k keeps: one where the selected one is there, else none.
+    fn kept_windows(&self, k: usize) -> usize
+        ensures { λ r. ⌜ r ≡ length (condition-at (selected (T·Source .means (now (self .entry) .under)) (now (self .entry) .windows)) k .windows) ⌝ }
+    {
+        match self.number(k) {
+            Some(number) => if number < self.under.windows(k) { 1 } else { 0 },
+            None => 0,
+        }
+    }
+
+    // The ends of the window that condition k keeps.
+    fn kept_low(&self, k: usize, w: usize) -> Option<T::Span>
+        ensures { λ r. ⌜ r ≡ window-of (condition-at (selected (T·Source .means (now (self .entry) .under)) (now (self .entry) .windows)) k) w .low ⌝ }
+    {
+        if w > 0 {
+            return None;
+        }
+        match self.number(k) {
+            Some(number) => self.under.low(k, number),
+            None => None,
+        }
+    }
+
+    fn kept_high(&self, k: usize, w: usize) -> Option<T::Span>
+        ensures { λ r. ⌜ r ≡ window-of (condition-at (selected (T·Source .means (now (self .entry) .under)) (now (self .entry) .windows)) k) w .high ⌝ }
+    {
+        if w > 0 {
+            return None;
+        }
+        match self.number(k) {
+            Some(number) => self.under.high(k, number),
+            None => None,
         }
     }
 }
@@ -46,41 +90,26 @@ pub impl<T: Source> Source for Selected<T> as SelectedSource {
     }
 
     fn conditions(&self) -> usize {
-        self.under.conditions()
+        self.below(0).conditions()
     }
 
     fn from(&self, k: usize) -> usize {
-        self.under.from(k)
+        self.below(k).from(k)
     }
 
     fn to(&self, k: usize) -> usize {
-        self.under.to(k)
+        self.below(k).to(k)
     }
 
     fn windows(&self, k: usize) -> usize {
-        match self.number(k) {
-            Some(number) => if number < self.under.windows(k) { 1 } else { 0 },
-            None => 0,
-        }
+        self.kept_windows(k)
     }
 
     fn low(&self, k: usize, w: usize) -> Option<T::Span> {
-        if w > 0 {
-            return None;
-        }
-        match self.number(k) {
-            Some(number) => self.under.low(k, number),
-            None => None,
-        }
+        self.kept_low(k, w)
     }
 
     fn high(&self, k: usize, w: usize) -> Option<T::Span> {
-        if w > 0 {
-            return None;
-        }
-        match self.number(k) {
-            Some(number) => self.under.high(k, number),
-            None => None,
-        }
+        self.kept_high(k, w)
     }
 }

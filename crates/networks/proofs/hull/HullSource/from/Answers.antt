@@ -1,7 +1,0 @@
-use mathlib.Core.Path.{sym, ap, _∙_}
-use Rattle.networks.proofs.Hulls.{hull-at}
-use Rattle.networks.proofs.hull.HullSource.from.Needs as need
-
-pub returns : need.returns
-returns g c =
-    c .from .ensures ∙ ap (λ x. x .from) (sym (hull-at (g .T·Source .means (c .args .self .now .under)) (c .args .k)))
