@@ -8,7 +8,8 @@ use Rattle.std.proofs.shelf.Lists.{getD-map, getD-past, length-map, take-all, a
 use Rattle.networks.specs.declared.window.Window.{Window}
 use Rattle.networks.specs.declared.rows.Row.{Row}
 use Rattle.networks.specs.Network.{Condition, Network, no-condition, open-window, condition-at, window-of}
-use Rattle.networks.specs.Rows.{room, row-condition, rows-network, row-of, Row-there, Row-absent}
+use Rattle.networks.specs.Rows.{room, row-condition, rows-network, row-of, Made-row}
+use Rattle.networks.specs.Steps.{Row-there, Row-absent}
 
 -- ---- a list filled up with its default
 module _ {X : Type 0} (d : X) where
@@ -52,10 +53,10 @@ module _ {S : Type 0} (n : ℕ) (rows : List (Row S)) (k : ℕ) where
   pub row-there : (d : Row S) → k < length rows → Row-there n rows k (getD rows k d)
   row-there d h =
       let e = getD-map row-condition rows k d no-condition h in
-      record { meant = e; counted = ap (λ (c : Condition S). length (c .windows)) e ∙ row-length (getD rows k d) }
+      record { within = h; meant = e; counted = ap (λ (c : Condition S). length (c .windows)) e ∙ row-length (getD rows k d) }
 
   pub row-absent : length rows ≤ k → Row-absent n rows k
-  row-absent h = record { meant = getD-past (map row-condition rows) k no-condition (rw length-map h) }
+  row-absent h = record { past = h; meant = getD-past (map row-condition rows) k no-condition (rw length-map h) }
 
 -- ---- the row of up to four windows
 short-row : {S : Type 0} (from to : ℕ) (ws : List (Window S)) → length ws ≤ 4
@@ -67,6 +68,8 @@ short-row from to (a ∷ (b ∷ (c ∷ []))) h = refl
 short-row from to (a ∷ (b ∷ (c ∷ (d ∷ [])))) h = refl
 short-row from to (a ∷ (b ∷ (c ∷ (d ∷ (e ∷ ws))))) h = absurd (omega arith)
 
-pub row-of-keeps : {S : Type 0} (from to : ℕ) (ws : List (Window S)) → length ws ≤ 4
-    → row-condition (row-of from to ws) ≡ record { from = from; to = to; windows = ws }
-row-of-keeps {S} from to ws h = ap (λ (vs : List (Window S)). record { from = from; to = to; windows = vs }) (short-row from to ws h)
+pub row-of-made : {S : Type 0} (from to : ℕ) (ws : List (Window S)) (r : Row S) → r ≡ row-of from to ws → Made-row from to ws r
+row-of-made {S} from to ws r e = record {
+  row = e;
+  kept = λ h. ap row-condition e ∙ ap (λ (vs : List (Window S)). record { from = from; to = to; windows = vs }) (short-row from to ws h);
+}

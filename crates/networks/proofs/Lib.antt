@@ -1,5 +1,1 @@
 pub mod Ledgers
-pub mod Hulls
-pub mod Selections
-pub mod Walks
-pub mod Lawfulness

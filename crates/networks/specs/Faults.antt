@@ -4,12 +4,12 @@ use Rattle.std.specs.declared.option.Option.the-variants.{Some, None}
 use Rattle.std.specs.declared.result.Result.{Result}
 use Rattle.std.specs.declared.result.Result.the-variants.{Ok, Err}
 use Rattle.networks.specs.declared.fault.Fault.{Fault}
-use Rattle.networks.specs.declared.fault.Fault.the-variants.{Points, Ends, WindowCount, EndSize, WindowOrder, Full, Choices, Memory, Absent, Cycle, NoPlan, Text}
+use Rattle.networks.specs.declared.fault.Fault.the-variants.{Points, Named, WindowCount, EndSize, WindowOrder, Full, Choices, Memory, Absent, Cycle, NoPlan, Text}
 use Rattle.networks.specs.Refusal.{Refusal}
 
 abbrev pub refusal-of : Fault → Refusal
 refusal-of Points = record { number = 1; detail = 0 }
-refusal-of (Ends k) = record { number = 2; detail = k }
+refusal-of (Named k) = record { number = 2; detail = k }
 refusal-of (WindowCount k) = record { number = 3; detail = k }
 refusal-of (EndSize k) = record { number = 4; detail = k }
 refusal-of (WindowOrder k) = record { number = 5; detail = k }

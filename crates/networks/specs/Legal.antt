@@ -1,15 +1,19 @@
--- What it is for a network to keep the rules, said of its points, ends and windows. Assumes nothing.
--- The checks 1 to 7 let pass exactly the networks that are legal.
+-- What it is for a network to be legal, said of its points, ends and windows one by one. Assumes nothing.
+-- The checks 1 to 7 let pass exactly the legal networks for which there is room.
 use mathlib.Core.Path.{_≡_}
 use mathlib.Core.Bool.{true, false}
 use Prim.Native.Nat.{ℕ, suc, _≤_, _<_}
 use lib.ListN.{length}
 use Rattle.std.specs.declared.option.Option.{Option}
 use Rattle.std.specs.declared.option.Option.the-variants.{Some}
+use Rattle.std.specs.Results.{isOk}
+use Rattle.std.specs.declared.result.Result.{Result}
 use Rattle.spans.specs.Kind.{Kind}
+use Rattle.networks.specs.declared.fault.Fault.{Fault}
 use Rattle.networks.specs.Limits.{most-points, most-conditions, most-choices, most-windows, largest-end}
 use Rattle.networks.specs.Network.{Condition, Network, condition-at, window-of}
-use Rattle.networks.specs.Refusal.{choices}
+use Rattle.networks.specs.Refusal.{choices, network-refusal}
+use Rattle.networks.specs.Faults.{refusal-in}
 
 module _ {S : Type 0} (K : Kind S) where
   -- both ends are there, and the first is below the second
@@ -37,3 +41,9 @@ module _ {S : Type 0} (K : Kind S) where
     pub each-condition : (k : ℕ) → k < length (N .conditions) → Legal-condition (N .points) (condition-at N k)
     pub few-conditions : length (N .conditions) ≤ most-conditions
     pub few-choices : choices (N .conditions) ≤ most-choices
+
+-- What the checks 1 to 7 of a network answer, where there is room for so many conditions.
+pub record Checked {S : Type 0} (K : Kind S) (N : Network S) (room : ℕ) (r : Result (Unit {0}) Fault) : Type 0 where
+  pub refusal : refusal-in r ≡ network-refusal K N room
+  pub legal : isOk r ≡ true → Legal K N
+  pub passes : Legal K N → length (N .conditions) ≤ room → isOk r ≡ true

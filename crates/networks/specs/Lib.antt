@@ -5,5 +5,6 @@ pub mod Hull
 pub mod Plan
 pub mod Selection
 pub mod Refusal
-pub mod Legal
 pub mod Faults
+pub mod Legal
+pub mod Steps

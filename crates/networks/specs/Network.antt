@@ -1,8 +1,7 @@
 -- What a source means: a number of points and a list of conditions between them. Assumes nothing.
-use mathlib.Core.Path.{_≡_}
 use mathlib.Core.List.{List, []}
 use Prim.Native.Nat.{ℕ}
-use lib.ListN.{length, getD}
+use lib.ListN.{getD}
 use Rattle.std.specs.declared.option.Option.the-variants.{None}
 use Rattle.networks.specs.declared.window.Window.{Window}
 
@@ -30,9 +29,3 @@ module _ {S : Type 0} where
 
   abbrev pub window-of : Condition S → ℕ → Window S
   window-of c w = getD (c .windows) w open-window
-
-  -- as many conditions, and condition k between the same points
-  pub record Same-points (M N : Network S) (k : ℕ) : Type 0 where
-    pub same-count : length (M .conditions) ≡ length (N .conditions)
-    pub same-from : condition-at M k .from ≡ condition-at N k .from
-    pub same-to : condition-at M k .to ≡ condition-at N k .to

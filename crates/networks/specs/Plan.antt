@@ -2,33 +2,29 @@
 --     Plan K N dates   one date for each point, point 0 at zero, every condition met
 --     Has-plan K N     there is one
 use mathlib.Core.Path.{_≡_}
-use mathlib.Core.Bool.{false}
 use mathlib.Core.List.{List}
 use Prim.Native.Nat.{ℕ, _≤_, _<_}
 use lib.ListN.{length, getD}
 use Rattle.std.specs.declared.option.Option.{Option}
 use Rattle.std.specs.declared.option.Option.the-variants.{Some, None}
-use Rattle.spans.specs.Kind.{Kind}
+use Rattle.spans.specs.Kind.{Kind, _≤⟨_⟩_}
 use Rattle.networks.specs.declared.window.Window.{Window}
 use Rattle.networks.specs.Limits.{largest-date}
 use Rattle.networks.specs.Network.{Condition, Network, condition-at, window-of}
 
 module _ {S : Type 0} (K : Kind S) where
-  abbrev pub Not-above : S → S → Type 0
-  Not-above a b = K .less b a ≡ false
-
   abbrev pub date : List S → ℕ → S
   date dates p = getD dates p (K .zero)
 
   -- x plus the low end is not above y; a missing end demands nothing
   abbrev pub Low-kept : Option S → S → S → Type 0
   Low-kept None x y = Unit {0}
-  Low-kept (Some a) x y = (s : S) × (K .plus x a ≡ Some s) × Not-above s y
+  Low-kept (Some a) x y = (s : S) × (K .plus x a ≡ Some s) × (s ≤⟨ K ⟩ y)
 
   -- y is not above x plus the high end
   abbrev pub High-kept : Option S → S → S → Type 0
   High-kept None x y = Unit {0}
-  High-kept (Some b) x y = (s : S) × (K .plus x b ≡ Some s) × Not-above y s
+  High-kept (Some b) x y = (s : S) × (K .plus x b ≡ Some s) × (y ≤⟨ K ⟩ s)
 
   -- the distance from x to y lies in the window
   abbrev pub Fits : Window S → S → S → Type 0

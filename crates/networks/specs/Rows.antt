@@ -1,11 +1,11 @@
 -- What rows in memory mean. A row gives the number of its windows and has room for four; later ones lack both ends. Assumes nothing.
 use mathlib.Core.Path.{_≡_}
 use mathlib.Core.List.{List, [], _∷_, _++_, map}
-use Prim.Native.Nat.{ℕ, _-_}
+use Prim.Native.Nat.{ℕ, _-_, _≤_}
 use lib.ListN.{length, getD, take, replicate}
 use Rattle.networks.specs.declared.window.Window.{Window}
 use Rattle.networks.specs.declared.rows.Row.{Row}
-use Rattle.networks.specs.Network.{Condition, Network, no-condition, open-window, condition-at}
+use Rattle.networks.specs.Network.{Condition, Network, open-window}
 
 module _ {S : Type 0} where
   -- the windows that a row has room for
@@ -16,7 +16,7 @@ module _ {S : Type 0} where
   row-condition r = record {
     from = r .from;
     to = r .to;
-    windows = take (r .count) (room r) ++ replicate (r .count - 4) open-window;
+    windows = take (r .count) (room r) ++ replicate (r .count - length (room r)) open-window;
   }
 
   abbrev pub rows-network : ℕ → List (Row S) → Network S
@@ -34,10 +34,7 @@ module _ {S : Type 0} where
     fourth = getD ws 3 open-window;
   }
 
-  -- What a look at rows finds: condition k is that of a row, which has as many windows as it claims; or there is no such row.
-  pub record Row-there (n : ℕ) (rows : List (Row S)) (k : ℕ) (r : Row S) : Type 0 where
-    pub meant : condition-at (rows-network n rows) k ≡ row-condition r
-    pub counted : length (condition-at (rows-network n rows) k .windows) ≡ r .count
-
-  pub record Row-absent (n : ℕ) (rows : List (Row S)) (k : ℕ) : Type 0 where
-    pub meant : condition-at (rows-network n rows) k ≡ no-condition
+  -- the row that is made of these windows; where it has room for them, its condition has just these
+  pub record Made-row (from to : ℕ) (ws : List (Window S)) (r : Row S) : Type 0 where
+    pub row : r ≡ row-of from to ws
+    pub kept : length ws ≤ length (room r) → row-condition r ≡ record { from = from; to = to; windows = ws }

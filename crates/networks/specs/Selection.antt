@@ -8,16 +8,10 @@ use mathlib.Core.List.{List, [], _∷_, _++_}
 use Prim.Native.Nat.{ℕ, _<_}
 use lib.Dec.{ltb}
 use lib.ListN.{length, getD, take, drop}
-use Rattle.std.specs.declared.option.Option.{Option}
-use Rattle.std.specs.declared.option.Option.the-variants.{Some, None}
 use Rattle.spans.specs.Kind.{Kind}
 use Rattle.networks.specs.Network.{Condition, Network, condition-at, window-of}
 use Rattle.networks.specs.Hull.{hulls}
 use Rattle.networks.specs.Plan.{Has-plan}
-
--- the number for condition k, where there is one
-abbrev pub number-at : List ℕ → ℕ → Option ℕ
-number-at ws k = cond (ltb k (length ws)) (Some (getD ws k 0)) None
 
 module _ {S : Type 0} where
   -- the window numbered w alone, or none where there is no such window

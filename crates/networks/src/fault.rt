@@ -7,14 +7,14 @@ pub enum Fault {
     // 1: no point, or too many
     Points,
     // 2: a condition names a point that is not there, or one point twice
-    Ends(usize),
+    Named(usize),
     // 3: a condition has no window, or too many
     WindowCount(usize),
     // 4: an end of a condition's windows is too large
     EndSize(usize),
     // 5: a condition's windows do not rise
     WindowOrder(usize),
-    // 6: too many conditions
+    // 6: too many conditions, or no room for one more
     Full,
     // 7: too many choice conditions
     Choices,
@@ -26,7 +26,7 @@ pub enum Fault {
     Cycle(usize),
     // 11: the hulls admit a plan, the conditions none
     NoPlan,
-    // 12: not list text; the place of the fault
+    // 12: too long a text, or not list text; the place of the fault
     Text(usize),
 }
 
@@ -36,7 +36,7 @@ impl Fault {
     {
         match self {
             Fault::Points => 1,
-            Fault::Ends(_) => 2,
+            Fault::Named(_) => 2,
             Fault::WindowCount(_) => 3,
             Fault::EndSize(_) => 4,
             Fault::WindowOrder(_) => 5,
@@ -60,7 +60,8 @@ impl Fault {
             | Fault::Memory
             | Fault::Absent
             | Fault::NoPlan => 0,
-            Fault::Ends(k) | Fault::WindowCount(k) | Fault::EndSize(k) | Fault::WindowOrder(k) => k,
+            Fault::Named(k) | Fault::WindowCount(k) | Fault::EndSize(k) | Fault::WindowOrder(k) =>
+                k,
             Fault::Cycle(edges) => edges,
             Fault::Text(place) => place,
         }

@@ -1,26 +1,13 @@
-// Networks: what a source of conditions means, the sources and layers over them, and the checks that every call makes first.
-mod checks;
-mod chosen;
+// Networks: what a source of conditions means, rows as a source, and the refusals with their numbers.
 mod fault;
-mod hull;
+mod lent;
 mod limits;
 mod rows;
-mod selected;
 mod source;
 mod window;
 
-pub use checks::Lent;
-pub use checks::check;
-pub use checks::check_network;
-pub use chosen::Chosen;
-pub use chosen::ChosenOver;
-pub use chosen::ChosenOverAny;
-pub use chosen::ChosenSource;
 pub use fault::Fault;
-pub use hull::Hull;
-pub use hull::HullOver;
-pub use hull::HullOverAny;
-pub use hull::HullSource;
+pub use lent::Lent;
 pub use limits::LARGEST_END;
 pub use limits::MOST_CHOICES;
 pub use limits::MOST_CONDITIONS;
@@ -31,10 +18,8 @@ pub use rows::Row;
 pub use rows::Rows;
 pub use rows::RowsFromRows;
 pub use rows::RowsSource;
-pub use selected::Selected;
-pub use selected::SelectedOver;
-pub use selected::SelectedOverAny;
-pub use selected::SelectedSource;
+pub use source::LentOver;
+pub use source::LentOverAny;
 pub use source::LentSource;
 pub use source::Source;
 pub use window::Window;

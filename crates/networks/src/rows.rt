@@ -1,10 +1,10 @@
 // Rows in the caller's memory as a source.
 ghost use mathlib.Core.Path.{_≡_};
-ghost use Prim.Native.Nat.{_≤_};
 ghost use lib.ListN.{length, getD};
 ghost use denote.Ref.{now as behind};
-ghost use Rattle.networks.specs.Network.{Condition, Network, open-window, window-of};
-ghost use Rattle.networks.specs.Rows.{row-condition, row-of, rows-network, Row-there, Row-absent};
+ghost use Rattle.networks.specs.Network.{open-window, window-of};
+ghost use Rattle.networks.specs.Rows.{row-condition, rows-network, Made-row};
+ghost use Rattle.networks.specs.Steps.{Row-there, Row-absent};
 ghost use Rattle.std.specs.Options.{Cases};
 use crate::source::Source;
 use crate::window::Window;
@@ -38,8 +38,7 @@ fn window_at<S: Span>(windows: &[Window<S>], w: usize) -> Window<S>
 
 // The row of these windows, the first four of them in its room.
 fn row_from<S: Span>(from: usize, to: usize, windows: &[Window<S>]) -> Row<S>
-    ensures row { λ r. ⌜ r ≡ row-of from to (now (windows .entry)) ⌝ }
-    ensures kept { λ r. ⌜ (length (now (windows .entry)) ≤ 4 → row-condition r ≡ record { from = from; to = to; windows = now (windows .entry) }) ⌝ }
+    ensures { λ r. ⌜ Made-row from to (now (windows .entry)) r ⌝ }
 {
     Row {
         from,
@@ -55,8 +54,7 @@ fn row_from<S: Span>(from: usize, to: usize, windows: &[Window<S>]) -> Row<S>
 impl<S: Span> Row<S> {
     // The row of a condition with these windows. Up to four are kept; with more, the row has their number and no ends past the fourth.
     pub fn new(from: usize, to: usize, windows: &[Window<S>]) -> Row<S>
-        ensures row { λ r. ⌜ r ≡ row-of from to (now (windows .entry)) ⌝ }
-        ensures kept { λ r. ⌜ (length (now (windows .entry)) ≤ 4 → row-condition r ≡ record { from = from; to = to; windows = now (windows .entry) }) ⌝ }
+        ensures { λ r. ⌜ Made-row from to (now (windows .entry)) r ⌝ }
     {
         row_from(from, to, windows)
     }

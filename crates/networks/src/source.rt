@@ -37,6 +37,18 @@ pub trait Source {
         ensures { λ r. ⌜ r ≡ window-of (condition-at (means (now (self .entry))) k) w .high ⌝ };
 }
 
+// A source made of a reference to another.
+pub trait LentOver<'a, T: Source>: Source<Span = T::Span> {
+    fn over(under: &'a T) -> Self
+        ensures { λ r. ⌜ Self·Source .means r ≡ T·Source .means (now (under .entry)) ⌝ };
+}
+
+pub impl<'a, T: Source> LentOver<'a, T> for &'a T as LentOverAny {
+    fn over(under: &'a T) -> &'a T {
+        under
+    }
+}
+
 // A reference to a source is a source that means the same.
 pub impl<T: Source> Source for &T as LentSource {
     type Span = T::Span;

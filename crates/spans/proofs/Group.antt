@@ -9,8 +9,8 @@ use Rattle.std.specs.Options.{isSome, valueOr}
 use Rattle.std.specs.declared.option.Option.{Option}
 use Rattle.std.specs.declared.option.Option.the-variants.{Some, None}
 use Rattle.std.proofs.shelf.Tests.{both-ways}
-use Rattle.spans.specs.Kind.{Kind, Laws, Compared, is-less, is-same, is-greater, reach}
-use Rattle.spans.specs.Sums.{_⊕⟨_⟩_, ⊖⟨_⟩_, _<⟨_⟩_, _≤⟨_⟩_}
+use Rattle.spans.specs.Kind.{Kind, Laws, Compared, is-less, is-same, is-greater, reach, _<⟨_⟩_, _≤⟨_⟩_}
+use Rattle.spans.specs.Sums.{_⊕⟨_⟩_, ⊖⟨_⟩_}
 use Rattle.spans.proofs.Parts.{refuted}
 use Rattle.spans.proofs.Order.{irrefl, lt-le, le-of-eq, le-cases, le-trans}
 

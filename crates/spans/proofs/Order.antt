@@ -3,8 +3,7 @@ use mathlib.Core.Path.{_≡_, refl, sym, ap, _∙_, subst}
 use mathlib.Core.Bool.{Bool, true, false}
 use mathlib.Core.Logic.{_⊎_, inl, inr}
 use Rattle.std.proofs.shelf.Tests.{both-ways, cases-bool}
-use Rattle.spans.specs.Kind.{Kind, Laws, Compared, is-less, is-same, is-greater}
-use Rattle.spans.specs.Sums.{_<⟨_⟩_, _≤⟨_⟩_}
+use Rattle.spans.specs.Kind.{Kind, Laws, Compared, is-less, is-same, is-greater, _<⟨_⟩_, _≤⟨_⟩_}
 use Rattle.spans.proofs.Parts.{refuted}
 
 module _ {S : Type 0} (K : Kind S) where

@@ -18,6 +18,16 @@ pub record Kind (S : Type 0) : Type 0 where
   pub plus : S → S → Option S
   pub opposite : S → Option S
 
+infix 40 _<⟨_⟩_
+infix 40 _≤⟨_⟩_
+-- below
+abbrev pub _<⟨_⟩_ : {S : Type 0} → S → Kind S → S → Type 0
+a <⟨ K ⟩ b = K .less a b ≡ true
+
+-- not above
+abbrev pub _≤⟨_⟩_ : {S : Type 0} → S → Kind S → S → Type 0
+a ≤⟨ K ⟩ b = K .less b a ≡ false
+
 -- the greatest size that the two parts of a sum have together, and that a span with an opposite has
 abbrev pub reach : ℕ
 reach = 2 ^ 42

@@ -1,7 +1,5 @@
--- Sums and opposites as total operations, zero where one is not there, and the order as a relation. Assumes nothing.
--- For lemmas and for the contracts of private steps; what the public calls promise is said by the kind itself.
-use mathlib.Core.Path.{_≡_}
-use mathlib.Core.Bool.{Bool, true, false}
+-- Sums and opposites as total operations, zero where one is not there. Assumes nothing.
+-- For lemmas: no promise is said by these, since a zero would hide what is not there.
 use mathlib.Core.List.{List, [], _∷_}
 use Prim.Native.Nat.{ℕ, _+_}
 use Rattle.std.specs.Options.{valueOr}
@@ -9,20 +7,11 @@ use Rattle.spans.specs.Kind.{Kind}
 
 infixl 60 _⊕⟨_⟩_
 infix 70 ⊖⟨_⟩_
-infix 40 _≤⟨_⟩_
-infix 40 _<⟨_⟩_
 abbrev pub _⊕⟨_⟩_ : {S : Type 0} → S → Kind S → S → S
 a ⊕⟨ K ⟩ b = valueOr (K .plus a b) (K .zero)
 
 abbrev pub ⊖⟨_⟩_ : {S : Type 0} → Kind S → S → S
 ⊖⟨ K ⟩ a = valueOr (K .opposite a) (K .zero)
-
-abbrev pub _<⟨_⟩_ : {S : Type 0} → S → Kind S → S → Type 0
-a <⟨ K ⟩ b = K .less a b ≡ true
-
--- not above
-abbrev pub _≤⟨_⟩_ : {S : Type 0} → S → Kind S → S → Type 0
-a ≤⟨ K ⟩ b = K .less b a ≡ false
 
 -- the sum of a list
 abbrev pub total : {S : Type 0} → Kind S → List S → S

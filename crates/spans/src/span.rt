@@ -15,7 +15,7 @@ pub trait Span: Copy {
     fn zero() -> Self
         ensures { λ r. ⌜ r ≡ kind .zero ⌝ };
 
-    // The smallest span above zero that the kind is counted in.
+    // A span above zero of size 1.
     fn step() -> Self
         ensures { λ r. ⌜ r ≡ kind .step ⌝ };
 

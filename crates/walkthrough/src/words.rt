@@ -35,7 +35,7 @@ pub impl fmt::Display for Shown as ShownDisplay {
 pub fn fault_words(fault: Fault) -> &'static str {
     match fault {
         Fault::Points => "there must be 1 to 48 points",
-        Fault::Ends(_) => "a condition joins two different points that are there",
+        Fault::Named(_) => "a condition joins two different points that are there",
         Fault::WindowCount(_) => "a condition has one to four windows",
         Fault::EndSize(_) => "an end has at most 16777216 minutes",
         Fault::WindowOrder(_) => "windows rise",
