@@ -12,23 +12,33 @@ pub struct Minutes {
 pub impl Span for Minutes as MinutesSpan {
     ghost kind = { minute-kind };
 
-    fn zero() -> Minutes {
+    fn zero() -> Minutes
+        ensures { λ r. ⌜ r ≡ minute-kind .zero ⌝ }
+    {
         Minutes { count: 0 }
     }
 
-    fn step() -> Minutes {
+    fn step() -> Minutes
+        ensures { λ r. ⌜ r ≡ minute-kind .step ⌝ }
+    {
         Minutes { count: 1 }
     }
 
-    fn size(self) -> u64 {
+    fn size(self) -> u64
+        ensures { λ r. ⌜ r ≡ minute-kind .size self ⌝ }
+    {
         self.count.unsigned_abs()
     }
 
-    fn is_less(self, other: Minutes) -> bool {
+    fn is_less(self, other: Minutes) -> bool
+        ensures { λ r. ⌜ r ≡ minute-kind .less self other ⌝ }
+    {
         self.count < other.count
     }
 
-    fn sum(self, other: Minutes) -> Option<Minutes> {
+    fn sum(self, other: Minutes) -> Option<Minutes>
+        ensures { λ r. ⌜ r ≡ minute-kind .plus self other ⌝ }
+    {
         let a = self.count.unsigned_abs();
         let b = other.count.unsigned_abs();
         if a <= REACH && b <= REACH - a {
@@ -40,7 +50,9 @@ pub impl Span for Minutes as MinutesSpan {
         }
     }
 
-    fn opposite(self) -> Option<Minutes> {
+    fn opposite(self) -> Option<Minutes>
+        ensures { λ r. ⌜ r ≡ minute-kind .opposite self ⌝ }
+    {
         if self.count.unsigned_abs() <= REACH {
             Some(Minutes { count: -self.count })
         } else {

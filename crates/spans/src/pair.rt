@@ -17,25 +17,33 @@ pub type MinuteRank = Pair<Minutes, Minutes>;
 pub impl<A: Span, B: Span> Span for Pair<A, B> as PairSpan {
     ghost kind = { pair-kind (A·Span .kind) (B·Span .kind) };
 
-    fn zero() -> Pair<A, B> {
+    fn zero() -> Pair<A, B>
+        ensures { λ r. ⌜ r ≡ pair-kind (A·Span .kind) (B·Span .kind) .zero ⌝ }
+    {
         Pair {
             first: A::zero(),
             second: B::zero(),
         }
     }
 
-    fn step() -> Pair<A, B> {
+    fn step() -> Pair<A, B>
+        ensures { λ r. ⌜ r ≡ pair-kind (A·Span .kind) (B·Span .kind) .step ⌝ }
+    {
         Pair {
             first: A::zero(),
             second: B::step(),
         }
     }
 
-    fn size(self) -> u64 {
+    fn size(self) -> u64
+        ensures { λ r. ⌜ r ≡ pair-kind (A·Span .kind) (B·Span .kind) .size self ⌝ }
+    {
         self.first.size().max(self.second.size())
     }
 
-    fn is_less(self, other: Pair<A, B>) -> bool {
+    fn is_less(self, other: Pair<A, B>) -> bool
+        ensures { λ r. ⌜ r ≡ pair-kind (A·Span .kind) (B·Span .kind) .less self other ⌝ }
+    {
         if self.first.is_less(other.first) {
             return true;
         }
@@ -45,7 +53,9 @@ pub impl<A: Span, B: Span> Span for Pair<A, B> as PairSpan {
         self.second.is_less(other.second)
     }
 
-    fn sum(self, other: Pair<A, B>) -> Option<Pair<A, B>> {
+    fn sum(self, other: Pair<A, B>) -> Option<Pair<A, B>>
+        ensures { λ r. ⌜ r ≡ pair-kind (A·Span .kind) (B·Span .kind) .plus self other ⌝ }
+    {
         let a = self.first.size().max(self.second.size());
         let b = other.first.size().max(other.second.size());
         if a > REACH || b > REACH - a {
@@ -56,7 +66,9 @@ pub impl<A: Span, B: Span> Span for Pair<A, B> as PairSpan {
         Some(Pair { first, second })
     }
 
-    fn opposite(self) -> Option<Pair<A, B>> {
+    fn opposite(self) -> Option<Pair<A, B>>
+        ensures { λ r. ⌜ r ≡ pair-kind (A·Span .kind) (B·Span .kind) .opposite self ⌝ }
+    {
         let first = self.first.opposite()?;
         let second = self.second.opposite()?;
         Some(Pair { first, second })

@@ -42,7 +42,7 @@ const AMPLE: Lent = Lent {
 };
 
 // The hull of condition k of any source, asked of a layer over it.
-pub fn hull_of<T: Source>(source: &T, k: usize) -> Window<T::Span>
+fn hull_of<T: Source>(source: &T, k: usize) -> Window<T::Span>
     ensures { λ r. ⌜ r ≡ window-of (condition-at (hulls (T·Source .means (now (source .entry)))) k) 0 ⌝ }
 {
     let hull = Hull::over(source);
