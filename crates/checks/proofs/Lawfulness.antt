@@ -57,19 +57,13 @@ module _ {S : Type 0} (K : Kind S) where
   end-small None h = refl
   end-small (Some a) h = le-leb (K .size a) largest-end (h a refl)
 
-  lows-small : (ws : List (Window S)) → all-small K ws ≡ true
-      → (w : ℕ) (a : S) → getD ws w open-window .low ≡ Some a → K .size a ≤ largest-end
-  lows-small [] h w a e = absurd (grind arith)
-  lows-small (v ∷ ws) h zero a e =
-      small-end (v .low) a (and-parts _ _ (and-parts _ (all-small K ws) h .0) .0) e
-  lows-small (v ∷ ws) h (suc w) a e = lows-small ws (and-parts _ _ h .1) w a e
-
-  highs-small : (ws : List (Window S)) → all-small K ws ≡ true
-      → (w : ℕ) (b : S) → getD ws w open-window .high ≡ Some b → K .size b ≤ largest-end
-  highs-small [] h w b e = absurd (grind arith)
-  highs-small (v ∷ ws) h zero b e =
-      small-end (v .high) b (and-parts _ _ (and-parts _ (all-small K ws) h .0) .1) e
-  highs-small (v ∷ ws) h (suc w) b e = highs-small ws (and-parts _ _ h .1) w b e
+  -- of either end, by what tells it from both
+  ends-small : (end : Window S → Option S) → end open-window ≡ None
+      → ((v : Window S) → (small K (v .low) && small K (v .high)) ≡ true → small K (end v) ≡ true)
+      → (ws : List (Window S)) → all-small K ws ≡ true → (w : ℕ) (a : S) → end (getD ws w open-window) ≡ Some a → K .size a ≤ largest-end
+  ends-small end none tell [] h w a e = absurd (let z : None ≡ Some a = sym none ∙ e in grind arith)
+  ends-small end none tell (v ∷ ws) h zero a e = small-end (end v) a (tell v (and-parts _ (all-small K ws) h .0)) e
+  ends-small end none tell (v ∷ ws) h (suc w) a e = ends-small end none tell ws (and-parts _ _ h .1) w a e
 
   small-from : (ws : List (Window S))
       → ((w : ℕ) (a : S) → getD ws w open-window .low ≡ Some a → K .size a ≤ largest-end)
@@ -151,8 +145,8 @@ module _ {S : Type 0} (K : Kind S) where
           two-points = eqb-false (c .from) (c .to) (not-true _ (two .1));
           some-window = ltb-true 0 (length (c .windows)) (four .0);
           few-windows = leb-true (length (c .windows)) most-windows (four .1);
-          low-small = lows-small (c .windows) light;
-          high-small = highs-small (c .windows) light;
+          low-small = ends-small (λ v. v .low) refl (λ v t. and-parts _ _ t .0) (c .windows) light;
+          high-small = ends-small (λ v. v .high) refl (λ v t. and-parts _ _ t .1) (c .windows) light;
           ordered = rises-ordered (c .windows) rising;
           apart = rises-apart (c .windows) rising;
         }

@@ -18,17 +18,19 @@ fn is_small<S: Span>(end: Option<S>) -> bool
     }
 }
 
-fn ends_small<S: Span>(low: Option<S>, high: Option<S>) -> bool
-    ensures { λ r. ⌜ r ≡ (small kind low && small kind high) ⌝ }
+// Whether both ends of window w are small.
+fn window_small<T: Source>(source: &T, k: usize, w: usize) -> bool
+    ensures { λ r. ⌜ r ≡ (small (Span·Span .kind) (window-of (condition-at (means (now (source .entry))) k) w .low)
+        && small (Span·Span .kind) (window-of (condition-at (means (now (source .entry))) k) w .high)) ⌝ }
 {
-    is_small(low) && is_small(high)
+    is_small(source.low(k, w)) && is_small(source.high(k, w))
 }
 
 pub(crate) fn windows_small<T: Source>(source: &T, k: usize) -> bool
     ensures { λ r. ⌜ r ≡ all-small (Span·Span .kind) (condition-at (means (now (source .entry))) k .windows) ⌝ }
 {
     for w in 0..source.windows(k) {
-        if !ends_small(source.low(k, w), source.high(k, w)) {
+        if !window_small(source, k, w) {
             return false;
         }
     }

@@ -7,15 +7,22 @@ use Prim.Native.Nat.{ℕ, zero, suc, _+_, _<_, _≤_}
 use native.Mathlib.Omega.{arith}
 use lib.Dec.{ltb}
 use lib.ListN.{length, getD, take, drop, length-append, length-take, length-drop}
+use Rattle.std.specs.Options.{Cases}
+use Rattle.std.specs.Orderings.{When}
+use Rattle.std.specs.declared.option.Option.{Option}
 use Rattle.std.specs.declared.option.Option.the-variants.{Some, None}
 use Rattle.std.proofs.shelf.Lists.{getD-past, length-map}
-use Rattle.std.proofs.shelf.Tests.{lt-ltb, le-ltb, cases-lt, cond-true, cond-false}
+use Rattle.std.proofs.shelf.Tests.{ltb-true, ltb-false, lt-ltb, le-ltb, cases-lt, cond-true, cond-false}
 use Rattle.networks.specs.declared.window.Window.{Window}
 use Rattle.networks.specs.Network.{Condition, Network, no-condition, open-window, condition-at, window-of}
 use Rattle.networks.specs.Steps.{Joins-alike, number-at}
 use Rattle.networks.specs.Hull.{hull, hulls}
 use Rattle.layers.proofs.Hulls.{hull-at}
 use Rattle.networks.specs.Selection.{only, without-windows, selected-conditions, selected, chosen}
+
+by-test : (t : Bool) {P Q : Type 0} → (t ≡ true → P) → (t ≡ false → Q) → When t P Q
+by-test true p q = p refl
+by-test false p q = q refl
 
 -- ---- the number for a condition
 pub numbered : (ws : List ℕ) (k n : ℕ) → Some n ≡ number-at ws k → (k < length ws) × (n ≡ getD ws k 0)
@@ -123,6 +130,14 @@ module _ {S : Type 0} (N : Network S) (ws : List ℕ) (k : ℕ) where
               getD-past (condition-at N k .windows) (getD ws k 0) open-window l ∙ past (omega arith)
         ]
 
+    pub kept-by-number : w ≡ 0 → (o : Option ℕ) → o ≡ number-at ws k
+        → Cases o (window-of (condition-at (selected N ws) k) w ≡ open-window)
+        (λ n. window-of (condition-at (selected N ws) k) w ≡ window-of (condition-at N k) n)
+    kept-by-number e None f = sym (outside (not-numbered ws k f))
+    kept-by-number e (Some n) f =
+        let m = numbered ws k n f in
+        sym (selected-window (m .0) e) ∙ ap (window-of (condition-at N k)) (sym (m .1))
+
 -- ---- a list up to a place, another from there on
 module _ {X : Type 0} (d : X) where
   pub before-place : (xs ys : List X) (p k : ℕ) → length xs ≡ length ys → k < p → getD (take p xs ++ drop p ys) k d ≡ getD xs k d
@@ -171,3 +186,6 @@ module _ {S : Type 0} (N : Network S) (ws : List ℕ) (place : ℕ) where
         | inr h ↦ ap (λ (c : Condition S). c .to) (chosen-above h ∙ hull-at N k)
       ];
     }
+
+    pub chosen-by-place : When (ltb k place) (condition-at (chosen N ws place) k ≡ condition-at (selected N ws) k) (condition-at (chosen N ws place) k ≡ condition-at (hulls N) k)
+    chosen-by-place = by-test (ltb k place) (λ t. chosen-below (ltb-true k place t)) (λ t. chosen-above (ltb-false k place t))

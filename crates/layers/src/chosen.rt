@@ -1,9 +1,10 @@
 // The layer of a selection made in part: the selected window of each condition below a place, the hull of each from there on.
 ghost use mathlib.Core.Path.{_≡_};
-ghost use lib.ListN.{length};
-ghost use Rattle.networks.specs.Network.{condition-at, window-of};
+ghost use Rattle.networks.specs.Network.{condition-at};
 ghost use Rattle.networks.specs.Steps.{Joins-alike};
-ghost use Rattle.networks.specs.Selection.{chosen};
+ghost use Rattle.networks.specs.Hull.{hulls};
+ghost use Rattle.networks.specs.Selection.{selected, chosen};
+ghost use Rattle.std.specs.Orderings.{When};
 use crate::hull::hull_high;
 use crate::hull::hull_low;
 use crate::hull::hull_windows;
@@ -40,36 +41,11 @@ impl<T: Source> Chosen<T> {
         &self.kept.under
     }
 
-    // How many windows condition k has: as selected below the place, as its hull from there on.
-    fn mixed_windows(&self, k: usize) -> usize
-        ensures { λ r. ⌜ r ≡ length (condition-at (chosen (T·Source .means (now (self .entry) .kept .under)) (now (self .entry) .kept .windows) (now (self .entry) .place)) k .windows) ⌝ }
+    // Whether condition k is as selected; else it is its hull.
+    fn is_selected(&self, k: usize) -> bool
+        ensures { λ r. ⌜ When r (condition-at (chosen (T·Source .means (now (self .entry) .kept .under)) (now (self .entry) .kept .windows) (now (self .entry) .place)) k ≡ condition-at (selected (T·Source .means (now (self .entry) .kept .under)) (now (self .entry) .kept .windows)) k) (condition-at (chosen (T·Source .means (now (self .entry) .kept .under)) (now (self .entry) .kept .windows) (now (self .entry) .place)) k ≡ condition-at (hulls (T·Source .means (now (self .entry) .kept .under))) k) ⌝ }
     {
-        if k < self.place {
-            self.kept.windows(k)
-        } else {
-            hull_windows(&self.kept.under, k)
-        }
-    }
-
-    // Its ends likewise.
-    fn mixed_low(&self, k: usize, w: usize) -> Option<T::Span>
-        ensures { λ r. ⌜ r ≡ window-of (condition-at (chosen (T·Source .means (now (self .entry) .kept .under)) (now (self .entry) .kept .windows) (now (self .entry) .place)) k) w .low ⌝ }
-    {
-        if k < self.place {
-            self.kept.low(k, w)
-        } else {
-            hull_low(&self.kept.under, k, w)
-        }
-    }
-
-    fn mixed_high(&self, k: usize, w: usize) -> Option<T::Span>
-        ensures { λ r. ⌜ r ≡ window-of (condition-at (chosen (T·Source .means (now (self .entry) .kept .under)) (now (self .entry) .kept .windows) (now (self .entry) .place)) k) w .high ⌝ }
-    {
-        if k < self.place {
-            self.kept.high(k, w)
-        } else {
-            hull_high(&self.kept.under, k, w)
-        }
+        k < self.place
     }
 }
 
@@ -95,14 +71,26 @@ pub impl<T: Source> Source for Chosen<T> as ChosenSource {
     }
 
     fn windows(&self, k: usize) -> usize {
-        self.mixed_windows(k)
+        if self.is_selected(k) {
+            self.kept.windows(k)
+        } else {
+            hull_windows(&self.kept.under, k)
+        }
     }
 
     fn low(&self, k: usize, w: usize) -> Option<T::Span> {
-        self.mixed_low(k, w)
+        if self.is_selected(k) {
+            self.kept.low(k, w)
+        } else {
+            hull_low(&self.kept.under, k, w)
+        }
     }
 
     fn high(&self, k: usize, w: usize) -> Option<T::Span> {
-        self.mixed_high(k, w)
+        if self.is_selected(k) {
+            self.kept.high(k, w)
+        } else {
+            hull_high(&self.kept.under, k, w)
+        }
     }
 }

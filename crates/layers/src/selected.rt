@@ -1,7 +1,8 @@
 // The selection layer: of each condition of the source below only the window that is selected for it.
 ghost use mathlib.Core.Path.{_≡_};
 ghost use lib.ListN.{length};
-ghost use Rattle.networks.specs.Network.{condition-at, window-of};
+ghost use Rattle.std.specs.Options.{Cases};
+ghost use Rattle.networks.specs.Network.{open-window, condition-at, window-of};
 ghost use Rattle.networks.specs.Steps.{Joins-alike, number-at};
 ghost use Rattle.networks.specs.Selection.{selected};
 use networks::Source;
@@ -55,29 +56,15 @@ impl<T: Source> Selected<T> {
         }
     }
 
-    // The ends of the window that condition k keeps.
-    fn kept_low(&self, k: usize, w: usize) -> Option<T::Span>
-        ensures { λ r. ⌜ r ≡ window-of (condition-at (selected (T·Source .means (now (self .entry) .under)) (now (self .entry) .windows)) k) w .low ⌝ }
+    // The number of the window below that is window w of condition k under the layer, where condition k has a number and w is 0.
+    fn kept_window(&self, k: usize, w: usize) -> Option<usize>
+        ensures { λ r. ⌜ Cases r (window-of (condition-at (selected (T·Source .means (now (self .entry) .under)) (now (self .entry) .windows)) k) w ≡ open-window)
+            (λ n. window-of (condition-at (selected (T·Source .means (now (self .entry) .under)) (now (self .entry) .windows)) k) w ≡ window-of (condition-at (T·Source .means (now (self .entry) .under)) k) n) ⌝ }
     {
         if w > 0 {
             return None;
         }
-        match self.number(k) {
-            Some(number) => self.under.low(k, number),
-            None => None,
-        }
-    }
-
-    fn kept_high(&self, k: usize, w: usize) -> Option<T::Span>
-        ensures { λ r. ⌜ r ≡ window-of (condition-at (selected (T·Source .means (now (self .entry) .under)) (now (self .entry) .windows)) k) w .high ⌝ }
-    {
-        if w > 0 {
-            return None;
-        }
-        match self.number(k) {
-            Some(number) => self.under.high(k, number),
-            None => None,
-        }
+        self.number(k)
     }
 }
 
@@ -107,10 +94,16 @@ pub impl<T: Source> Source for Selected<T> as SelectedSource {
     }
 
     fn low(&self, k: usize, w: usize) -> Option<T::Span> {
-        self.kept_low(k, w)
+        match self.kept_window(k, w) {
+            Some(n) => self.under.low(k, n),
+            None => None,
+        }
     }
 
     fn high(&self, k: usize, w: usize) -> Option<T::Span> {
-        self.kept_high(k, w)
+        match self.kept_window(k, w) {
+            Some(n) => self.under.high(k, n),
+            None => None,
+        }
     }
 }

@@ -1,32 +1,27 @@
-use mathlib.Core.Path.{_≡_, refl}
-use mathlib.Core.Bool.{true, false}
+use mathlib.Core.Path.{refl, sym}
 use native.Mathlib.Omega.{arith}
-use lib.ListN.{getD, drop}
 use Rattle.networks.specs.Network.{condition-at, open-window}
 use Rattle.networks.specs.Refusal.{all-small}
 use Rattle.checks.proofs.Walks.{passed, failed, all-passed, both-small}
 use Rattle.checks.proofs.windows.windows_small.Needs as need
 
-pub returns-then-not-ends-small : need.returns-then-not-ends-small
-returns-then-not-ends-small g c =
+pub returns-then-not-window-small : need.returns-then-not-window-small
+returns-then-not-window-small g c =
     let K = g .Span·Span .kind in
     let ws = condition-at (g .T·Source .means (c .args .source .now)) (c .args .k) .windows in
-    let w = c .loop-w .w in
-    let e = c .if-not-ends-small .ensures tt in
-    let t : both-small K (getD ws w open-window) (drop w ws) ≡ false = cc in
-    failed (all-small K) (both-small K) refl (λ _ _. refl) ws w open-window (c .loop-w .inv) (omega (arith, c .windows-w-end .ensures)) t
+    failed (all-small K) (both-small K) refl (λ _ _. refl) ws (c .loop-w .w) open-window (c .loop-w .inv)
+    (omega (arith, c .windows-w-end .ensures)) (sym (c .if-not-window-small .ensures tt))
 
 pub loop-w-again : need.loop-w-again
 loop-w-again g c =
     let K = g .Span·Span .kind in
     let ws = condition-at (g .T·Source .means (c .args .source .now)) (c .args .k) .windows in
-    let w = c .loop-w .w in
-    let e = c .if-not-ends-small .ensures tt in
-    let t : both-small K (getD ws w open-window) (drop w ws) ≡ true = cc in
-    passed (all-small K) (both-small K) refl (λ _ _. refl) ws w open-window (c .loop-w .inv) (omega (arith, c .windows-w-end .ensures)) t
+    passed (all-small K) (both-small K) refl (λ _ _. refl) ws (c .loop-w .w) open-window (c .loop-w .inv)
+    (omega (arith, c .windows-w-end .ensures)) (sym (c .if-not-window-small .ensures tt))
 
 pub returns : need.returns
 returns g c =
     let K = g .Span·Span .kind in
     let ws = condition-at (g .T·Source .means (c .args .source .now)) (c .args .k) .windows in
-    all-passed (all-small K) (both-small K) refl (λ _ _. refl) ws (c .loop-w .w) open-window (c .loop-w .inv) (omega (arith, c .windows-w-end .ensures))
+    all-passed (all-small K) (both-small K) refl (λ _ _. refl) ws (c .loop-w .w) open-window (c .loop-w .inv)
+    (omega (arith, c .windows-w-end .ensures))
