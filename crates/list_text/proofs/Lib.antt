@@ -1,0 +1,10 @@
+pub mod Completions
+pub mod Written
+pub mod Readable
+pub mod Places
+pub mod Pieces
+pub mod Moves
+pub mod Numerals
+pub mod Words
+pub mod Listings
+pub mod Texts

@@ -1,0 +1,6 @@
+pub mod Grammar
+pub mod Place
+pub mod Answer
+pub mod Machine
+pub mod Lexing
+pub mod Reading
