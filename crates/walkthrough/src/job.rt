@@ -1,13 +1,21 @@
-// The brake change: its points and the rows of its conditions, and rows that spoil it.
-use networks::Row;
+// The brake change: its points, and its conditions as list text.
 use networks::Window;
-use networks::WindowClone;
 use spans::Minutes;
-use spans::MinutesSpan;
 
 pub const POINTS: usize = 7;
 
-pub const CONDITIONS: usize = 8;
+// The brake change as a terminal writes it. The berth's gaps come first, then the steps of the work, the whole change, and
+// the second vessel, which has to find the crane handed back.
+pub const BRAKE_CHANGE: &str = "[(7,7,[]);
+ (0,1,[(E(30),E(90));(E(600),E(660));(E(1320),E(1400))]);
+ (1,2,[(E(0),E(45))]);
+ (2,3,[(E(120),E(180))]);
+ (3,4,[(E(150),E(200))]);
+ (4,5,[(E(40),E(60))]);
+ (5,6,[(E(0),E(30))]);
+ (1,6,[(E(430),E(430))]);
+ (0,6,[(Inf,E(1080))])]
+";
 
 // The numbers of the points, in the order in which they should come.
 pub fn point_name(p: usize) -> &'static str {
@@ -29,49 +37,4 @@ pub fn minutes(low: i64, high: i64) -> Window<Minutes> {
         low: Some(Minutes { count: low }),
         high: Some(Minutes { count: high }),
     }
-}
-
-// At most `high` minutes: the low end is missing.
-pub fn at_most(high: i64) -> Window<Minutes> {
-    Window {
-        low: None,
-        high: Some(Minutes { count: high }),
-    }
-}
-
-// At least `low` minutes: the high end is missing.
-pub fn at_least(low: i64) -> Window<Minutes> {
-    Window {
-        low: Some(Minutes { count: low }),
-        high: None,
-    }
-}
-
-pub fn brake_change() -> [Row<Minutes>; 8] {
-    [
-        // the berth's gaps: when the crane may be stopped
-        Row::new(
-            0,
-            1,
-            &[minutes(30, 90), minutes(600, 660), minutes(1320, 1400)],
-        ),
-        Row::new(1, 2, &[minutes(0, 45)]),
-        Row::new(2, 3, &[minutes(120, 180)]),
-        Row::new(3, 4, &[minutes(150, 200)]),
-        Row::new(4, 5, &[minutes(40, 60)]),
-        Row::new(5, 6, &[minutes(0, 30)]),
-        // the whole change
-        Row::new(1, 6, &[minutes(430, 430)]),
-        // the second vessel berths
-        Row::new(0, 6, &[at_most(1080)]),
-    ]
-}
-
-// The brake change with one row replaced.
-pub fn spoilt(k: usize, row: Row<Minutes>) -> [Row<Minutes>; 8] {
-    let mut rows = brake_change();
-    if k < rows.len() {
-        rows[k] = row;
-    }
-    rows
 }

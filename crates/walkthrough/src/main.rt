@@ -4,12 +4,12 @@ mod story;
 mod words;
 
 use std::io;
+use story::tell_brake_change;
 use story::tell_checks;
-use story::tell_conditions;
-use story::tell_selections;
+use story::tell_texts;
 
 fn main(rt: LibcRuntime) -> io::Result<()> {
-    tell_conditions(&rt)?;
-    tell_selections(&rt)?;
+    tell_brake_change(&rt)?;
+    tell_texts(&rt)?;
     tell_checks(&rt)
 }
