@@ -8,3 +8,4 @@ pub mod Numerals
 pub mod Words
 pub mod Listings
 pub mod Texts
+pub mod Fills

@@ -7,6 +7,7 @@ use Prim.Native.Nat.{ℕ, zero, suc, _+_, _-_, _≤_, _<_}
 use native.Mathlib.Omega.{arith}
 use lib.Dec.{eqb, leb}
 use lib.ListN.{length, drop, getD, set, length-append, length-drop}
+use Rattle.std.specs.declared.option.Option.{Option}
 use Rattle.std.specs.declared.option.Option.the-variants.{Some, None}
 use Rattle.std.proofs.shelf.Lists.{getD-at, getD-set-same, getD-set-other, drop-all}
 use Rattle.std.proofs.shelf.Tests.{cond-true, cond-false, cases-lt, cases-eq, le-leb, lt-leb}
@@ -23,7 +24,7 @@ use Rattle.list_text.specs.declared.token.Lexeme.{Lexeme}
 use Rattle.list_text.specs.Grammar.{blank, byte, Listing}
 use Rattle.list_text.specs.Lexing.{Lexed, Cut, mark-of}
 use Rattle.list_text.specs.Machine.{State, finished, expects, windows-start, windows-more, rows-more, in-window, one-more-row, step, run, reads, stuck}
-use Rattle.list_text.specs.Reading.{Leads, Faults, Behind, Shows, One-more}
+use Rattle.list_text.specs.Reading.{Leads, Faults, Behind, Shows, One-more, Next-row}
 use Rattle.list_text.proofs.Written.{Waits, windows-start-waits, windows-more-waits, rows-wait, finished-waits}
 use Rattle.list_text.proofs.Moves.{over-gap, halts, Wants, refuses, takes, First, first-no-blank, first-other, begins}
 
@@ -172,3 +173,20 @@ row-found cs c j pick count r many e s = subst (λ y. Shows y pick r) (sym (getD
 pub row-other : (cs : List (Condition Minutes)) (c : Condition Minutes) (j pick count : ℕ) (r : Row Minutes) → count ≡ length cs → (count ≡ j → ⊥)
     → Shows (getD cs j no-condition) pick r → Shows (getD (cs ++ (c ∷ [])) j no-condition) pick r
 row-other cs c j pick count r many ne s = subst (λ y. Shows y pick r) (sym (append-other cs c no-condition j (λ e. ne (many ∙ sym e)))) s
+
+-- ---- the next row, or none
+closes : (o : Option Mark) → (o ≡ Some ListClose) ⊎ (o ≡ Some ListClose → ⊥)
+closes None = inr (λ e. grind arith)
+closes (Some Open) = inr (λ e. grind arith)
+closes (Some Close) = inr (λ e. grind arith)
+closes (Some ListOpen) = inr (λ e. grind arith)
+closes (Some ListClose) = inl refl
+closes (Some Comma) = inr (λ e. grind arith)
+closes (Some Semicolon) = inr (λ e. grind arith)
+
+pub no-row : {t : List ℕ} {p : ℕ} {x : Lexeme} → Lexed t p x → (mark-of (x .token) ≡ Some Semicolon → ⊥) → Next-row t p None
+no-row {t} {p} {x} h other =
+    elim (closes (mark-of (x .token))) [
+      | inl is ↦ inl (x .after, λ n m cs. rows-close h n m cs is)
+      | inr not-closed ↦ inr (x .place, λ n m cs. rows-fault h n m cs not-closed other)
+    ]

@@ -22,15 +22,15 @@ use Rattle.list_text.proofs.Completions.{Accepts, back, never}
 
 -- ---- what is still to come in a state, by the grammar
 -- a minus only where a sign may stand
-abbrev Sign-allowed : Bool → Bool → Type 0
+abbrev pub Sign-allowed : Bool → Bool → Type 0
 Sign-allowed sign false = Unit {0}
 Sign-allowed true true = Unit {0}
 Sign-allowed false true = ⊥
 
-abbrev Number : Bool → Bool → ℕ → Part
+abbrev pub Number : Bool → Bool → ℕ → Part
 Number sign negative n u v = (ds : List ℕ) × Numeral n ds × Sign-allowed sign negative × Token free (dash negative ++ ds) u v
 
-abbrev Rest : State → List ℕ → Listing → Type 0
+abbrev pub Rest : State → List ℕ → Listing → Type 0
 Rest (finished x) u l = Blanks u [] × (x ≡ l)
 Rest (expects m k) u l = (v : List ℕ) × One free m u v × Rest k v l
 Rest (number sign k) u l =
@@ -240,7 +240,7 @@ from-nothing (windows-start k) l e = no-reading _ l e
 from-nothing (windows-more ws k) l e = no-reading _ l e
 from-nothing (rows-more n m cs) l e = no-reading _ l e
 
-rest-of : (t : List ℕ) (s : State) (l : Listing) → Accepts s t l → Rest s t l
+pub rest-of : (t : List ℕ) (s : State) (l : Listing) → Accepts s t l → Rest s t l
 rest-of [] s l a = from-nothing s l (a .runs 0)
 rest-of (c ∷ cs) s l a = go (step s c) refl (λ k. rest-of cs k l)
   where

@@ -1,7 +1,7 @@
 -- What a text means as a source: the conditions behind its header. Assumes nothing.
 use mathlib.Core.Path.{_≡_, refl, sym, ap, subst, _∙_}
 use mathlib.Core.Logic.{_⊎_, inl, inr}
-use mathlib.Core.List.{List, []}
+use mathlib.Core.List.{List, [], _∷_, _++_}
 use mathlib.Core.Bool.{cond}
 use Prim.Native.Nat.{ℕ, _+_, _≤_, _<_}
 use native.Mathlib.Omega.{arith}
@@ -17,7 +17,9 @@ use Rattle.list_text.specs.Place.{longest-text, Fault-at, Turned-away}
 use Rattle.list_text.specs.Answer.{Read-as}
 use Rattle.list_text.specs.Lexing.{Inside}
 use Rattle.list_text.specs.Machine.{start, run, rows-more, finished, reads, stuck}
-use Rattle.list_text.specs.Reading.{Leads, Faults, Shows, conditions-of, conditions-from, Looked}
+use Rattle.list_text.specs.Reading.{Leads, Faults, Shows, conditions-of, conditions-from, Looked, Readable}
+use Rattle.list_text.proofs.Completions.{Accepts, accepts}
+use Rattle.list_text.proofs.Readable.{rest-of}
 use Rattle.list_text.proofs.Places.{says-read, fault-stuck, denotes-one, one-place}
 
 -- ---- the conditions from a place on
@@ -38,6 +40,36 @@ pub all-read : (t : List ℕ) (p q : ℕ) (cs : List (Condition Minutes)) → In
 unfolding conditions-from
 all-read t p q cs i h e =
     cond-true _ _ _ (and-from _ _ (le-leb (length t) longest-text (i .short)) (le-leb p (length t) (i .within))) ∙ ap conditions-of (h .leads ∙ e)
+
+pub readable : (t : List ℕ) (p q : ℕ) (cs : List (Condition Minutes)) → Inside t p
+    → Leads t p (rows-more 0 0 []) q (finished (record { first = 0; second = 0; conditions = cs }))
+    → run q (finished (record { first = 0; second = 0; conditions = cs })) (drop q t) ≡ reads (record { first = 0; second = 0; conditions = cs })
+    → Readable t p
+readable t p q cs i h e = record { inside = i; listing = _; reads-it = h .leads ∙ e; means-it = all-read t p q cs i h e }
+
+-- ---- rows of a readable text, read one by one
+-- what was read so far is the front of the conditions
+pub front-read : (t : List ℕ) (p q : ℕ) (cs : List (Condition Minutes)) (r : Readable t p) → Leads t p (rows-more 0 0 []) q (rows-more 0 0 cs)
+    → (ds : List (Condition Minutes)) × (conditions-from t p ≡ cs ++ ds)
+front-read t p q cs r h =
+    let a : Accepts (rows-more 0 0 cs) (drop q t) (r .listing) = accepts q (sym (h .leads) ∙ r .reads-it) in
+    let rest = rest-of (drop q t) (rows-more 0 0 cs) (r .listing) a in
+    (rest .0, r .means-it ∙ sym (ap (λ l. l .conditions) (rest .6)))
+
+-- where the last bracket follows, it is all of them
+pub all-front : (t : List ℕ) (p q s : ℕ) (cs : List (Condition Minutes)) (r : Readable t p) → Leads t p (rows-more 0 0 []) q (rows-more 0 0 cs)
+    → Leads t q (rows-more 0 0 cs) s (finished (record { first = 0; second = 0; conditions = cs })) → conditions-from t p ≡ cs
+all-front t p q s cs r h e =
+    let a : Accepts (finished (record { first = 0; second = 0; conditions = cs })) (drop s t) (r .listing) = accepts s (sym (e .leads) ∙ sym (h .leads) ∙ r .reads-it) in
+    let rest = rest-of (drop s t) (finished (record { first = 0; second = 0; conditions = cs })) (r .listing) a in
+    r .means-it ∙ sym (ap (λ l. l .conditions) (rest .1))
+
+-- and a fault cannot follow
+pub no-fault : (t : List ℕ) (p q e : ℕ) (cs : List (Condition Minutes)) → Readable t p → Leads t p (rows-more 0 0 []) q (rows-more 0 0 cs)
+    → Faults t q (rows-more 0 0 cs) e → ⊥
+no-fault t p q e cs r h f =
+    let g : stuck e ≡ reads (r .listing) = sym (f .faults) ∙ sym (h .leads) ∙ r .reads-it in
+    let z : _≡_ {A = ℕ} 0 1 = cc in omega arith
 
 -- ---- what a look shows
 pub looked-none : (cs : List (Condition Minutes)) (k w : ℕ) (v : ℕ × Row Minutes) → cs ≡ [] → v ≡ (0, row-of 0 0 []) → Looked cs k w v

@@ -1,11 +1,14 @@
 -- What it is to read on from a place: the machine goes from a state at p to a state at q, or gets stuck at a place.
 -- No public promise is said by these. Assumes nothing.
 use mathlib.Core.Path.{_≡_}
-use mathlib.Core.List.{List, []}
+use mathlib.Core.Logic.{_⊎_}
+use mathlib.Core.List.{List, [], _∷_, _++_}
 use mathlib.Core.Bool.{cond, _&&_}
 use Prim.Native.Nat.{ℕ, _+_, _-_, _≤_, _<_}
 use lib.Dec.{leb}
 use lib.ListN.{drop, length, getD, set}
+use Rattle.std.specs.declared.option.Option.{Option}
+use Rattle.std.specs.declared.option.Option.the-variants.{Some, None}
 use Rattle.std.specs.declared.result.Result.{Result}
 use Rattle.std.specs.declared.result.Result.the-variants.{Ok, Err}
 use Rattle.spans.specs.declared.minutes.Minutes.{Minutes}
@@ -15,6 +18,7 @@ use Rattle.networks.specs.Network.{Condition, no-condition, open-window, window
 use Rattle.networks.specs.Rows.{room}
 use Rattle.list_text.specs.Grammar.{Listing, Says, network}
 use Rattle.list_text.specs.Place.{longest-text, Fault-at}
+use Rattle.list_text.specs.Lexing.{Inside}
 use Rattle.list_text.specs.Machine.{State, finished, windows-start, in-row, rows-more, run, Outcome, reads, stuck}
 
 -- from the state s at p to the state k at q
@@ -91,7 +95,23 @@ pub record Looked (cs : List (Condition Minutes)) (k w : ℕ) (v : ℕ × Row Mi
   pub count : v .1 .count ≡ length (getD cs k no-condition .windows)
   pub window : v .1 .first ≡ window-of (getD cs k no-condition) w
 
+-- from the place p on there are rows, up to the end of a text that is not too long, and these are the conditions
+pub record Readable (t : List ℕ) (p : ℕ) : Type 0 where
+  pub inside : Inside t p
+  pub listing : Listing
+  pub reads-it : run p (rows-more 0 0 []) (drop p t) ≡ reads listing
+  pub means-it : conditions-from t p ≡ listing .conditions
+
 -- what reading a whole text finds: its points and the place behind its header, or the place of its fault
 abbrev pub Scanned : List ℕ → Result (ℕ × ℕ) ℕ → Type 0
-Scanned t (Ok v) = (l : Listing) × Says t l × (network l .points ≡ v .0) × (conditions-from t (v .1) ≡ l .conditions)
+Scanned t (Ok v) = (l : Listing) × Says t l × (network l .points ≡ v .0) × (conditions-from t (v .1) ≡ l .conditions) × Readable t (v .1)
 Scanned t (Err e) = Fault-at t e
+
+-- the next row, where there is one; else the last bracket, or a fault
+abbrev pub Next-row : List ℕ → ℕ → Option (Row Minutes × ℕ) → Type 0
+Next-row t p (Some v) =
+    (c : Condition Minutes) × Shows c 0 (v .0) × (p < v .1) × (v .1 ≤ length t)
+    × ((n m : ℕ) (cs : List (Condition Minutes)) → Leads t p (rows-more n m cs) (v .1) (rows-more n m (cs ++ (c ∷ []))))
+Next-row t p None =
+    ((q : ℕ) × ((n m : ℕ) (cs : List (Condition Minutes)) → Leads t p (rows-more n m cs) q (finished (record { first = n; second = m; conditions = cs }))))
+    ⊎ ((e : ℕ) × ((n m : ℕ) (cs : List (Condition Minutes)) → Faults t p (rows-more n m cs) e))

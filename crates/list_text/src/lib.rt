@@ -1,5 +1,6 @@
 // List text: read in place as exactly the network that it denotes, or turned away with the place of its fault.
 mod bytes;
+mod filling;
 mod lexer;
 mod numbers;
 mod rows;

@@ -7,7 +7,7 @@ ghost use Rattle.std.specs.Vec.{made};
 ghost use Rattle.networks.specs.Rows.{room};
 ghost use Rattle.list_text.specs.Lexing.{Inside};
 ghost use Rattle.list_text.specs.Machine.{start, rows-more};
-ghost use Rattle.list_text.specs.Reading.{Behind, Reads, One-more, Reads-windows, Reads-row, Reads-rows};
+ghost use Rattle.list_text.specs.Reading.{Behind, Reads, One-more, Reads-windows, Reads-row, Reads-rows, Next-row};
 use crate::lexer::is_mark;
 use crate::lexer::next;
 use crate::numbers::expect;
@@ -147,4 +147,22 @@ pub fn header(text: &[u8]) -> Result<((usize, usize), usize), usize>
     let h = expect(text, g, Mark::ListClose)?;
     let after = expect(text, h, Mark::Close)?;
     Ok(((first as usize, second as usize), after))
+}
+
+// The row behind the next semicolon and the place behind it; none where no row follows.
+pub fn next_row(text: &[u8], from: usize) -> Option<(Row<Minutes>, usize)>
+    requires { ⌜ Inside (now text) from ⌝ }
+    ensures { λ r. ⌜ Next-row (now (text .entry)) from r ⌝ }
+{
+    let x = next(text, from);
+    if !is_mark(x.token, Mark::Semicolon) {
+        return None;
+    }
+    let Ok(p) = expect(text, x.after, Mark::Open) else {
+        return None;
+    };
+    match row(text, p, 0) {
+        Ok(read) => Some(read),
+        Err(_) => None,
+    }
 }

@@ -7,8 +7,10 @@ ghost use denote.Ref.{now as behind};
 ghost use Rattle.std.specs.Results.{Cases};
 ghost use Rattle.networks.specs.Rows.{row-of};
 ghost use Rattle.list_text.specs.Answer.{Read-as, Refused-text};
+ghost use Rattle.list_text.specs.Filling.{Filled};
 ghost use Rattle.list_text.specs.Lexing.{Inside};
-ghost use Rattle.list_text.specs.Reading.{conditions-from, Looked, Scanned};
+ghost use Rattle.list_text.specs.Reading.{conditions-from, Looked, Readable, Scanned};
+use crate::filling::fill_rows;
 use crate::lexer::is_finish;
 use crate::lexer::next;
 use crate::rows::header;
@@ -72,11 +74,21 @@ impl<'a> ListText<'a> {
             }
         }
     }
+
+    // The conditions from number `first` on, copied into the rows; how many.
+    fn copied(&self, first: usize, rows: &mut [Row<Minutes>]) -> usize
+        ensures { λ r. ⌜ (Readable (behind (now (self .entry) .text)) (now (self .entry) .place) → Filled (conditions-from (behind (now (self .entry) .text)) (now (self .entry) .place)) first (now (rows .entry)) (now (rows .exit)) r) ⌝ }
+    {
+        if self.text.len() > LONGEST_TEXT || self.place > self.text.len() {
+            return 0;
+        }
+        fill_rows(self.text, self.place, first, rows)
+    }
 }
 
 // What a text gives: its points and the place behind its header, or its refusal.
 fn checked(text: &[u8]) -> Result<(usize, usize), Fault>
-    ensures { λ r. ⌜ Cases r (λ v. Read-as (now (text .entry)) (record { points = v .0; conditions = conditions-from (now (text .entry)) (v .1) })) (λ f. Refused-text (now (text .entry)) f) ⌝ }
+    ensures { λ r. ⌜ Cases r (λ v. Read-as (now (text .entry)) (record { points = v .0; conditions = conditions-from (now (text .entry)) (v .1) }) × Readable (now (text .entry)) (v .1)) (λ f. Refused-text (now (text .entry)) f) ⌝ }
 {
     if text.len() > LONGEST_TEXT {
         return Err(Fault::Text(LONGEST_TEXT));
@@ -89,12 +101,21 @@ fn checked(text: &[u8]) -> Result<(usize, usize), Fault>
 
 // A source made of a list text.
 pub trait FromText<'a>: Source<Span = Minutes> {
+    // That all its rows can be read; so it is for each source that `read` makes.
+    ghost readable: { Self → Type 0 };
+
     // The text as a source of the network that it denotes; else refusal 12 with the place of its fault.
     fn read(text: &'a [u8]) -> Result<Self, Fault>
-        ensures { λ r. ⌜ Cases r (λ s. Read-as (now (text .entry)) (Self·Source .means s)) (λ f. Refused-text (now (text .entry)) f) ⌝ };
+        ensures { λ r. ⌜ Cases r (λ s. Read-as (now (text .entry)) (Self·Source .means s) × readable s) (λ f. Refused-text (now (text .entry)) f) ⌝ };
+
+    // Copies the conditions from number `first` on to the front of the rows, as many as there are and as have room; how many.
+    fn fill(&self, first: usize, rows: &mut [Row<Minutes>]) -> usize
+        ensures { λ r. ⌜ (readable (now (self .entry)) → Filled (Self·Source .means (now (self .entry)) .conditions) first (now (rows .entry)) (now (rows .exit)) r) ⌝ };
 }
 
 pub impl<'a> FromText<'a> for ListText<'a> as ListTextFromText {
+    ghost readable = { λ s. Readable (behind (s .text)) (s .place) };
+
     fn read(text: &'a [u8]) -> Result<ListText<'a>, Fault> {
         match checked(text) {
             Ok((points, place)) => Ok(ListText {
@@ -104,6 +125,10 @@ pub impl<'a> FromText<'a> for ListText<'a> as ListTextFromText {
             }),
             Err(fault) => Err(fault),
         }
+    }
+
+    fn fill(&self, first: usize, rows: &mut [Row<Minutes>]) -> usize {
+        self.copied(first, rows)
     }
 }
 

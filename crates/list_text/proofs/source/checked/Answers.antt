@@ -13,7 +13,9 @@ returns-then-text-gt-LONGEST-TEXT c = record {
 }
 
 pub returns-in-Ok : need.returns-in-Ok
-returns-in-Ok c = let h = c .in-Ok .ensures tt in read-as _ (h .0) _ _ (c .if-text-gt-LONGEST-TEXT .left) (h .1) (h .2) (h .3)
+returns-in-Ok c =
+    let h = c .in-Ok .ensures tt in
+    (read-as _ (h .0) _ _ (c .if-text-gt-LONGEST-TEXT .left) (h .1) (h .2) (h .3), h .4)
 
 pub returns-in-Err : need.returns-in-Err
 returns-in-Err c = record {

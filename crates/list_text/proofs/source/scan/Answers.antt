@@ -3,9 +3,10 @@ use native.Mathlib.Omega.{arith}
 use Rattle.std.proofs.shelf.Results.{err-from-errBy}
 use Rattle.std.proofs.shelf.Tests.{both-ways}
 use Rattle.list_text.specs.Grammar.{Listing}
+use Rattle.list_text.specs.Lexing.{Inside}
 use Rattle.list_text.proofs.Moves.{then, stop}
 use Rattle.list_text.proofs.Listings.{at-finish, not-finish}
-use Rattle.list_text.proofs.Texts.{fault-of, says-of, all-read}
+use Rattle.list_text.proofs.Texts.{fault-of, says-of, all-read, readable}
 use Rattle.list_text.proofs.source.scan.Needs as need
 
 pub returns-in-Break-first : need.returns-in-Break-first
@@ -25,11 +26,14 @@ returns-then-not-is-finish c =
 
 pub returns : need.returns
 returns c =
+    let t = c .args .text .now in
     let r = c .in-Continue-end .ensures tt .reads in
     let is = c .is-finish .ensures .0 (c .if-not-is-finish .left) in
+    let i : Inside t (c .in-Continue-first .place) = record { within = c .in-Continue-first .ensures tt .behind .within; short = c .pre .short } in
     let l : Listing = record { first = c .in-Continue-first .first; second = c .in-Continue-first .second; conditions = r .0 } in (
       l,
-      says-of _ _ l (then (c .in-Continue-first .ensures tt .reads) (r .3 _ _)) (at-finish (c .next-x .ensures) l is),
+      says-of t _ l (then (c .in-Continue-first .ensures tt .reads) (r .3 _ _)) (at-finish (c .next-x .ensures) l is),
       sym (c .agreed .ensures),
-      all-read _ (c .in-Continue-first .place) _ (r .0) (record { within = c .in-Continue-first .ensures tt .behind .within; short = c .pre .short }) (r .3 0 0) (at-finish (c .next-x .ensures) _ is),
+      all-read t (c .in-Continue-first .place) _ (r .0) i (r .3 0 0) (at-finish (c .next-x .ensures) _ is),
+      readable t (c .in-Continue-first .place) _ (r .0) i (r .3 0 0) (at-finish (c .next-x .ensures) _ is),
     )
