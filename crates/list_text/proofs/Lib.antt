@@ -9,3 +9,4 @@ pub mod Words
 pub mod Listings
 pub mod Texts
 pub mod Fills
+pub mod Writes

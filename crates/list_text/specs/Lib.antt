@@ -5,3 +5,4 @@ pub mod Filling
 pub mod Machine
 pub mod Lexing
 pub mod Reading
+pub mod Dates

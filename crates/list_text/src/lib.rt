@@ -1,4 +1,4 @@
-// List text: read in place as exactly the network that it denotes, or turned away with the place of its fault.
+// List text: read in place as exactly the network that it denotes, or turned away with the place of its fault; and dates written as list text.
 mod bytes;
 mod filling;
 mod lexer;
@@ -7,8 +7,10 @@ mod rows;
 mod source;
 mod token;
 mod windows;
+mod writing;
 
 pub use source::FromText;
 pub use source::ListText;
 pub use source::ListTextFromText;
 pub use source::ListTextSource;
+pub use writing::write_dates;

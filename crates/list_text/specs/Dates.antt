@@ -1,0 +1,32 @@
+-- The list text that says which date each point has. Assumes nothing.
+use mathlib.Core.List.{List, [], _∷_, _++_}
+use Prim.Native.Nat.{ℕ, _+_, _^_, _<_}
+use lib.IntN.{natAbs}
+use lib.ListN.{length, drop}
+use Rattle.std.specs.declared.option.Option.the-variants.{Some}
+use Rattle.std.specs.shelf.Lists.{All}
+use Rattle.spans.specs.declared.minutes.Minutes.{Minutes}
+use Rattle.networks.specs.Network.{Condition}
+use Rattle.list_text.specs.Grammar.{Part, Listing}
+
+-- point p lies at the date d, seen from point 0
+abbrev pub dated : ℕ → Minutes → Condition Minutes
+dated p d = record { from = 0; to = p; windows = record { low = Some d; high = Some d } ∷ [] }
+
+-- the dates of the points from p on
+abbrev pub dated-from : ℕ → List Minutes → List (Condition Minutes)
+dated-from p [] = []
+dated-from p (d ∷ ds) = dated p d ∷ dated-from (p + 1) ds
+
+-- as many points as there are dates, and for each point but the first its date
+abbrev pub dates-listing : List Minutes → Listing
+dates-listing ds = record { first = length ds; second = length ds; conditions = dated-from 1 (drop 1 ds) }
+
+-- 12 digits write the number of the dates, and each of them
+pub record Writable (ds : List Minutes) : Type 0 where
+  pub few : length ds < 10 ^ 12
+  pub small : All (λ d. natAbs (d .count) < 10 ^ 12) ds
+
+-- bytes that are this part, whatever follows them
+abbrev pub Writes : Part → List ℕ → Type 0
+Writes f w = (v : List ℕ) → f (w ++ v) v
