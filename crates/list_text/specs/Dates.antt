@@ -1,13 +1,15 @@
 -- The list text that says which date each point has. Assumes nothing.
+use mathlib.Core.Bool.{Bool, true, false}
 use mathlib.Core.List.{List, [], _∷_, _++_}
 use Prim.Native.Nat.{ℕ, _+_, _^_, _<_}
 use lib.IntN.{natAbs}
 use lib.ListN.{length, drop}
-use Rattle.std.specs.declared.option.Option.the-variants.{Some}
+use Rattle.std.specs.declared.option.Option.{Option}
+use Rattle.std.specs.declared.option.Option.the-variants.{Some, None}
 use Rattle.std.specs.shelf.Lists.{All}
 use Rattle.spans.specs.declared.minutes.Minutes.{Minutes}
 use Rattle.networks.specs.Network.{Condition}
-use Rattle.list_text.specs.Grammar.{Part, Listing}
+use Rattle.list_text.specs.Grammar.{Part, Listing, Text, compact}
 
 -- point p lies at the date d, seen from point 0
 abbrev pub dated : ℕ → Minutes → Condition Minutes
@@ -30,3 +32,13 @@ pub record Writable (ds : List Minutes) : Type 0 where
 -- bytes that are this part, whatever follows them
 abbrev pub Writes : Part → List ℕ → Type 0
 Writes f w = (v : List ℕ) → f (w ++ v) v
+
+-- a test and what it tests
+abbrev pub Tells : Bool → Type 0 → Type 0
+Tells true X = X
+Tells false X = X → ⊥
+
+-- a holder of the bytes of the compact text of the dates, or none where 12 digits do not write them
+abbrev pub Text-of-dates : {S : Type 0} → (S → List ℕ) → List Minutes → Option S → Type 0
+Text-of-dates bytes ds (Some s) = Writable ds × Text compact (dates-listing ds) (bytes s) []
+Text-of-dates bytes ds None = Writable ds → ⊥

@@ -4,12 +4,15 @@ ghost use Prim.Native.Nat.{_^_, _<_};
 ghost use lib.IntN.{natAbs};
 ghost use Rattle.std.specs.Of.String.{string-bytes};
 ghost use Rattle.std.specs.Vec.{made};
-ghost use Rattle.list_text.specs.Dates.{dated, dates-listing, Writable, Writes};
+ghost use Rattle.list_text.specs.Dates.{dated, dates-listing, Tells, Text-of-dates, Writable, Writes};
 ghost use Rattle.list_text.specs.Grammar.{compact, One, One-row, Header, Text, _⨾_};
 ghost use Rattle.list_text.specs.declared.token.Mark.the-variants.{ListOpen, Semicolon};
 use spans::Minutes;
 use std::alloc::AllocError;
 use std::alloc::Global;
+
+// The greatest number that 12 digits write.
+const GREATEST: u64 = 999999999999;
 
 // How a text of so many points begins: its first bracket and its header.
 fn header(heap: Global, points: usize) -> Result<String, AllocError>
@@ -26,8 +29,22 @@ fn row(heap: Global, point: usize, date: Minutes) -> Result<String, AllocError>
     format!(heap, ";(0,{point},[(E({d}),E({d}))])")
 }
 
+// Whether 12 digits write the number of the dates, and each of them.
+fn writable(dates: &[Minutes]) -> bool
+    ensures { λ r. ⌜ Tells r (Writable (now (dates .entry))) ⌝ }
+{
+    let mut i = 0;
+    while i < dates.len() {
+        if dates[i].count.unsigned_abs() > GREATEST {
+            return false;
+        }
+        i += 1;
+    }
+    dates.len() as u64 <= GREATEST
+}
+
 // The text that says of each point but the first that its distance from the first is its date.
-pub fn write_dates(heap: Global, dates: &[Minutes]) -> Result<String, AllocError>
+fn written(heap: Global, dates: &[Minutes]) -> Result<String, AllocError>
     ensures { λ r. ⌜ made r (λ s. Writable (now (dates .entry)) → Text compact (dates-listing (now (dates .entry))) (string-bytes s) []) ⌝ }
 {
     let mut text = header(heap, dates.len())?;
@@ -37,4 +54,15 @@ pub fn write_dates(heap: Global, dates: &[Minutes]) -> Result<String, AllocError
     }
     text.push_str("]")?;
     Ok(text)
+}
+
+// The dates as compact list text; None where 12 digits do not write them.
+pub fn write_dates(heap: Global, dates: &[Minutes]) -> Result<Option<String>, AllocError>
+    ensures { λ r. ⌜ made r (λ o. Text-of-dates string-bytes (now (dates .entry)) o) ⌝ }
+{
+    if !writable(dates) {
+        return Ok(None);
+    }
+    let text = written(heap, dates)?;
+    Ok(Some(text))
 }

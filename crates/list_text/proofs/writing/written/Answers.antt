@@ -6,7 +6,7 @@ use Rattle.std.specs.Of.String.{string-bytes}
 use Rattle.list_text.specs.Dates.{dates-listing}
 use Rattle.list_text.specs.Grammar.{compact, Text}
 use Rattle.list_text.proofs.Writes.{So-far, so-far-header, so-far-row, so-far-end}
-use Rattle.list_text.proofs.writing.write_dates.Needs as need
+use Rattle.list_text.proofs.writing.written.Needs as need
 
 pub loop-point-holds : need.loop-point-holds
 loop-point-holds c = so-far-header _ _ (c .in-Continue-text .ensures tt)
