@@ -1,4 +1,5 @@
--- Reading as a machine that takes one byte at a time. No public promise is said by it: the proofs show that it reads what the grammar says.
+-- Reading as a machine that takes one byte at a time. What a `ListText` means is worked out by it, and `read` promises that this is the network
+-- which the text denotes: a reader who believes the grammar need not read the machine.
 -- A state says what is still to come, and which state comes after it with what was read. Assumes nothing.
 use mathlib.Core.List.{List, [], _∷_, _++_}
 use mathlib.Core.Bool.{Bool, true, false, cond}

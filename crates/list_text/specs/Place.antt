@@ -10,7 +10,7 @@ use Rattle.list_text.specs.Grammar.{Listing, Says}
 abbrev pub Begins : List ℕ → Type 0
 Begins u = (v : List ℕ) × (l : Listing) × Says (u ++ v) l
 
--- the bytes before p begin a list text, those up to and with p do not, and the text itself is none
+-- the bytes before p begin a list text, those up to and with p (where there is a byte p) do not, and the text itself is none
 pub record Fault-at (t : List ℕ) (p : ℕ) : Type 0 where
   pub within : p ≤ length t
   pub before : Begins (take p t)

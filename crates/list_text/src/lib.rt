@@ -1,4 +1,5 @@
-// List text: read in place as exactly the network that it denotes, or turned away with the place of its fault; and dates written as list text.
+// List text of at most 65,536 bytes: read in place as exactly the network that it denotes, or turned away with the place of its fault.
+// A longer one is turned away. And dates written as list text.
 mod bytes;
 mod filling;
 mod lexer;

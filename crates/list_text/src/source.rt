@@ -135,6 +135,7 @@ pub impl<'a> FromText<'a> for ListText<'a> as ListTextFromText {
 pub impl Source for ListText<'_> as ListTextSource {
     type Span = Minutes;
 
+    // Worked out by the reading machine; `read` promises that it is the network that the text denotes.
     ghost means = { λ s. record { points = s .points; conditions = conditions-from (behind (s .text)) (s .place) } };
 
     fn points(&self) -> usize {
