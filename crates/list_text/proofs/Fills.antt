@@ -1,17 +1,16 @@
 -- Filling rows one by one with the conditions of a text. Assumes nothing.
 use mathlib.Core.Path.{_≡_, refl, sym, ap, subst, _∙_}
-use mathlib.Core.Logic.{_⊎_, inl, inr}
+use mathlib.Core.Logic.{inl, inr}
 use mathlib.Core.List.{List, [], _∷_, _++_, map, append-assoc}
-use Prim.Native.Nat.{ℕ, zero, suc, _+_, _-_, _≤_, _<_, min}
+use Prim.Native.Nat.{ℕ, zero, suc, _+_, _-_, _≤_, _<_}
 use native.Mathlib.Omega.{arith}
-use native.Mathlib.Numerals.{add-one}
 use lib.ListN.{length, take, drop, getD, set, length-append, length-drop}
 use Rattle.std.proofs.shelf.Lists.{length-map, map-append, drop-append-le, drop-all, drop-more, set-at, take-all, take-append-le}
 use Rattle.std.proofs.shelf.Tests.{cases-lt}
 use Rattle.spans.specs.declared.minutes.Minutes.{Minutes}
 use Rattle.networks.specs.declared.rows.Row.{Row}
-use Rattle.networks.specs.Network.{Condition, open-window, window-of}
-use Rattle.networks.specs.Rows.{room, row-of}
+use Rattle.networks.specs.Network.{Condition, window-of}
+use Rattle.networks.specs.Rows.{room}
 use Rattle.list_text.specs.Filling.{condition-row, Filled}
 use Rattle.list_text.specs.Machine.{rows-more}
 use Rattle.std.specs.declared.option.Option.the-variants.{None}
@@ -106,39 +105,35 @@ module _ (t : List ℕ) (from p first count filled : ℕ) (old new : List (Row M
   leads-more : Leads t from (rows-more 0 0 []) q (rows-more 0 0 (f .list ++ (c ∷ [])))
   leads-more = record { leads = f .leads .leads ∙ leads 0 0 (f .list) .leads }
 
-  pub step-past : count < first → Fill-so-far t from q first (count + 1) filled old new
-  step-past h =
+  step : (filled′ : ℕ) (new′ : List (Row Minutes)) → filled′ ≡ (count + 1) - first → filled′ ≤ length old
+      → new′ ≡ map condition-row (drop first (f .list ++ (c ∷ []))) ++ drop filled′ old → Fill-so-far t from q first (count + 1) filled′ old new′
+  step filled′ new′ so-many fits rows =
       let few = f .few in
       let many = f .many in
-      let z = f .so-many in
       let l = length-append (f .list) (c ∷ []) in
       record {
         behind = behind-more;
         few = omega arith;
         list = f .list ++ (c ∷ []);
         many = omega arith;
-        so-many = omega arith;
-        fits = f .fits;
-        rows = fill-past first (f .list) c filled old new (f .rows) (omega arith) (omega arith);
+        so-many = so-many;
+        fits = fits;
+        rows = rows;
         leads = leads-more;
       }
 
-  pub step-more : first ≤ count → filled < length old → Fill-so-far t from q first (count + 1) (filled + 1) old (set new filled r)
-  step-more h room =
-      let few = f .few in
+  pub step-past : count < first → Fill-so-far t from q first (count + 1) filled old new
+  step-past h =
       let many = f .many in
       let z = f .so-many in
-      let l = length-append (f .list) (c ∷ []) in
-      record {
-        behind = behind-more;
-        few = omega arith;
-        list = f .list ++ (c ∷ []);
-        many = omega arith;
-        so-many = omega arith;
-        fits = omega arith;
-        rows = ap (set new filled) (shown-row c r s) ∙ fill-more first (f .list) c filled old new (f .rows) (omega arith) (omega arith) room;
-        leads = leads-more;
-      }
+      step filled new (omega arith) (f .fits) (fill-past first (f .list) c filled old new (f .rows) (omega arith) (omega arith))
+
+  pub step-more : first ≤ count → filled < length old → Fill-so-far t from q first (count + 1) (filled + 1) old (set new filled r)
+  step-more h room =
+      let many = f .many in
+      let z = f .so-many in
+      step (filled + 1) (set new filled r) (omega arith) (omega arith)
+      (ap (set new filled) (shown-row c r s) ∙ fill-more first (f .list) c filled old new (f .rows) (omega arith) (omega arith) room)
 
 -- ---- the end: no room is left, or no row follows
 module _ (t : List ℕ) (from p first count filled : ℕ) (old new : List (Row Minutes)) (f : Fill-so-far t from p first count filled old new) (r : Readable t from) where

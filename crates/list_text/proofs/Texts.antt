@@ -1,8 +1,7 @@
 -- What a text means as a source: the conditions behind its header. Assumes nothing.
 use mathlib.Core.Path.{_≡_, refl, sym, ap, subst, _∙_}
 use mathlib.Core.Logic.{_⊎_, inl, inr}
-use mathlib.Core.List.{List, [], _∷_, _++_}
-use mathlib.Core.Bool.{cond}
+use mathlib.Core.List.{List, [], _++_}
 use Prim.Native.Nat.{ℕ, _+_, _≤_, _<_}
 use native.Mathlib.Omega.{arith}
 use native.Mathlib.Nat.{add-zero}
@@ -10,7 +9,7 @@ use lib.ListN.{length, drop, getD}
 use Rattle.std.proofs.shelf.Tests.{cond-true, cond-false, le-leb, lt-leb, and-from, and-left, and-right}
 use Rattle.spans.specs.declared.minutes.Minutes.{Minutes}
 use Rattle.networks.specs.declared.rows.Row.{Row}
-use Rattle.networks.specs.Network.{Condition, Network, no-condition, open-window, window-of}
+use Rattle.networks.specs.Network.{Condition, Network, no-condition, window-of}
 use Rattle.networks.specs.Rows.{row-of}
 use Rattle.list_text.specs.Grammar.{Listing, Says, network, Denotes}
 use Rattle.list_text.specs.Place.{longest-text, Fault-at, Turned-away}

@@ -1,6 +1,5 @@
 // Copies the conditions of a list text into lent rows, in one pass over the text.
-ghost use Prim.Native.Nat.{_≤_, _<_};
-ghost use lib.ListN.{length};
+ghost use Prim.Native.Nat.{_<_};
 ghost use Rattle.list_text.specs.Filling.{Filled};
 ghost use Rattle.list_text.specs.Lexing.{Inside};
 ghost use Rattle.list_text.specs.Reading.{conditions-from, Readable};

@@ -2,7 +2,7 @@
 ghost use mathlib.Core.Path.{_≡_};
 ghost use mathlib.Core.List.{[]};
 ghost use Prim.Native.Nat.{_<_};
-ghost use lib.ListN.{length, set};
+ghost use lib.ListN.{set};
 ghost use Rattle.std.specs.Vec.{made};
 ghost use Rattle.networks.specs.Rows.{room};
 ghost use Rattle.list_text.specs.Lexing.{Inside};

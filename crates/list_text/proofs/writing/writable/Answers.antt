@@ -1,15 +1,12 @@
 use borrow.Author.Needs.{needs}
 use mathlib.Core.Path.{_≡_, sym, subst}
 use mathlib.Core.Logic.{inl, inr}
-use mathlib.Core.Bool.{true, false}
-use Prim.Native.Nat.{_≤_, _<_, _^_}
+use Prim.Native.Nat.{_<_, _^_}
 use native.Mathlib.Omega.{arith}
-use lib.Dec.{leb}
 use lib.IntN.{natAbs, pos}
 use lib.ListN.{length, getD}
 use Rattle.std.proofs.shelf.Tests.{cases-lt, le-leb, lt-leb}
 use Rattle.std.proofs.shelf.Elements.{all-getD, all-from-getD}
-use Rattle.spans.specs.declared.minutes.Minutes.{Minutes}
 use Rattle.list_text.specs.Dates.{Writable, Tells}
 use Rattle.list_text.proofs.writing.writable.Needs as need
 

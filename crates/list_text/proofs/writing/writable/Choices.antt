@@ -1,7 +1,6 @@
 use Prim.Native.Nat.{ℕ, _-_, _^_, _<_}
 use lib.IntN.{natAbs, pos}
 use lib.ListN.{length, getD}
-use Rattle.spans.specs.declared.minutes.Minutes.{Minutes}
 use Rattle.list_text.proofs.writing.writable.Given as given
 
 abbrev pub Inv-loop-i : given.InvT-loop-i
