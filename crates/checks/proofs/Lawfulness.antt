@@ -1,14 +1,14 @@
 -- The checks 1 to 7 let pass exactly the networks that are legal. Assumes nothing.
-use mathlib.Core.Path.{_≡_, refl, sym, ap, _∙_}
-use mathlib.Core.Bool.{Bool, true, false, cond, not, _&&_}
+use mathlib.Core.Path.{_≡_, refl, sym, _∙_}
+use mathlib.Core.Bool.{Bool, true, false, not, _&&_}
 use mathlib.Core.List.{List, [], _∷_}
 use Prim.Native.Nat.{ℕ, zero, suc, _+_, _<_, _≤_, min}
 use native.Mathlib.Omega.{arith}
-use lib.Dec.{ltb, leb, eqb}
+use lib.Dec.{ltb}
 use lib.ListN.{length, getD}
 use Rattle.std.specs.declared.option.Option.{Option}
 use Rattle.std.specs.declared.option.Option.the-variants.{Some, None}
-use Rattle.std.proofs.shelf.Tests.{and-parts, and-from, leb-true, le-leb, lt-ltb, ltb-true, eqb-false, ne-eqb, not-true, not-from-false, ltb-false, le-ltb}
+use Rattle.std.proofs.shelf.Tests.{and-parts, and-from, leb-true, le-leb, lt-ltb, ltb-true, eqb-false, ne-eqb, not-true, not-from-false}
 use Rattle.std.specs.Results.{isOk}
 use Rattle.std.specs.declared.result.Result.{Result}
 use Rattle.std.specs.declared.result.Result.the-variants.{Ok, Err}
@@ -17,7 +17,7 @@ use Rattle.networks.specs.declared.fault.Fault.{Fault}
 use Rattle.networks.specs.Faults.{refusal-in}
 use Rattle.networks.specs.declared.window.Window.{Window}
 use Rattle.networks.specs.Limits.{most-points, most-conditions, most-choices, most-windows, largest-end}
-use Rattle.networks.specs.Network.{Condition, Network, no-condition, open-window, condition-at}
+use Rattle.networks.specs.Network.{Condition, Network, no-condition, open-window}
 use Rattle.networks.specs.Refusal.{Refusal, or-else, refuse-unless, points-refusal, room-refusal, joins-two, one-to-four, choices, small, all-small, in-order, leaves-gap, before, rises, condition-refusal, conditions-refusal, network-refusal}
 use Rattle.networks.specs.Legal.{Apart, Legal-condition, Legal, Checked}
 

@@ -1,8 +1,8 @@
 -- Every state of the machine can be completed, so the place where it gets stuck is the first byte with which nothing can go on. Assumes nothing.
-use mathlib.Core.Path.{_≡_, refl, sym, ap, _∙_}
+use mathlib.Core.Path.{_≡_, refl}
 use mathlib.Core.List.{List, [], _∷_, _++_}
-use mathlib.Core.Bool.{Bool, true, false, cond}
-use Prim.Native.Nat.{ℕ, zero, suc, _+_, _≤_, _<_, zero-le, suc-le-suc}
+use mathlib.Core.Bool.{Bool, true, false}
+use Prim.Native.Nat.{ℕ, suc, _+_, _≤_, _<_, zero-le, suc-le-suc}
 use native.Mathlib.Omega.{arith}
 use lib.ListN.{length, take}
 use Rattle.std.specs.declared.option.Option.{Option}
@@ -10,7 +10,7 @@ use Rattle.std.specs.declared.option.Option.the-variants.{Some, None}
 use Rattle.list_text.specs.declared.token.Mark.{Mark}
 use Rattle.list_text.specs.declared.token.Mark.the-variants.{Open, Close, ListOpen, ListClose, Comma, Semicolon}
 use Rattle.list_text.specs.Grammar.{byte, Listing}
-use Rattle.list_text.specs.Machine.{State, finished, expects, number, after-dash, in-digits, at-end, after-I, after-In, windows-start, windows-more, rows-more, mark-after, step, Outcome, reads, stuck, at-the-end, run}
+use Rattle.list_text.specs.Machine.{State, finished, expects, number, after-dash, in-digits, at-end, after-I, after-In, windows-start, windows-more, rows-more, mark-after, step, reads, stuck, at-the-end, run}
 
 -- from the state the text is read to its end, as l
 pub record Accepts (s : State) (t : List ℕ) (l : Listing) : Type 0 where

@@ -2,7 +2,7 @@
 use mathlib.Core.Path.{_≡_, refl, sym, ap, subst, _∙_}
 use mathlib.Core.Logic.{⊎-elim, _⊎_, inl, inr}
 use mathlib.Core.List.{List, [], _∷_, _++_}
-use mathlib.Core.Bool.{Bool, true, false, cond}
+use mathlib.Core.Bool.{false, cond}
 use Prim.Native.Nat.{ℕ, zero, suc, _+_, _-_, _≤_, _<_}
 use native.Mathlib.Omega.{arith}
 use lib.Dec.{eqb, leb}
@@ -14,7 +14,7 @@ use Rattle.std.proofs.shelf.Tests.{cond-true, cond-false, cases-lt, cases-eq, l
 use Rattle.spans.specs.declared.minutes.Minutes.{Minutes}
 use Rattle.networks.specs.declared.window.Window.{Window}
 use Rattle.networks.specs.declared.rows.Row.{Row}
-use Rattle.networks.specs.Network.{Condition, no-condition, open-window, window-of}
+use Rattle.networks.specs.Network.{Condition, no-condition, open-window}
 use Rattle.networks.specs.Rows.{room, row-of}
 use Rattle.list_text.specs.declared.token.Mark.the-variants.{Open, Close, ListOpen, ListClose, Comma, Semicolon}
 use Rattle.list_text.specs.declared.token.Mark.{Mark}
@@ -23,10 +23,10 @@ use Rattle.list_text.specs.declared.token.Token.the-variants.{Bracket, Number,
 use Rattle.list_text.specs.declared.token.Lexeme.{Lexeme}
 use Rattle.list_text.specs.Grammar.{blank, byte, Listing}
 use Rattle.list_text.specs.Lexing.{Lexed, Cut, mark-of}
-use Rattle.list_text.specs.Machine.{State, finished, expects, windows-start, windows-more, rows-more, in-window, one-more-row, step, run, reads, stuck}
+use Rattle.list_text.specs.Machine.{State, finished, expects, windows-start, windows-more, rows-more, in-window, one-more-row, step, run, reads}
 use Rattle.list_text.specs.Reading.{Leads, Faults, Behind, Shows, One-more, Next-row}
-use Rattle.list_text.proofs.Written.{Waits, windows-start-waits, windows-more-waits, rows-wait, finished-waits}
-use Rattle.list_text.proofs.Moves.{over-gap, halts, Wants, refuses, takes, First, first-no-blank, first-other, begins}
+use Rattle.list_text.proofs.Written.{windows-start-waits, windows-more-waits, rows-wait, finished-waits}
+use Rattle.list_text.proofs.Moves.{over-gap, halts, Wants, refuses, takes, first-no-blank, first-other, begins}
 
 -- ---- at the next token
 -- a state that takes one mark or another, and nothing else

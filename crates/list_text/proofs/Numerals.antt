@@ -15,16 +15,15 @@ use Rattle.std.specs.declared.option.Option.the-variants.{Some, None}
 use Rattle.std.proofs.shelf.Lists.{take-more, take-all}
 use Rattle.std.proofs.shelf.Tests.{cond-true, cond-false, ne-eqb, or-cases, both-ways, leb-true, and-parts}
 use Rattle.std.proofs.shelf.Ways.{tells}
-use Rattle.list_text.specs.declared.token.Mark.{Mark}
 use Rattle.list_text.specs.declared.token.Mark.the-variants.{Close}
 use Rattle.list_text.specs.declared.token.Token.{Token}
 use Rattle.list_text.specs.declared.token.Token.the-variants.{Bracket, Number, Word, Stray, Finish}
 use Rattle.list_text.specs.declared.token.Lexeme.{Lexeme}
-use Rattle.list_text.specs.Grammar.{blank, digit, byte, All-of, Numeral, written}
-use Rattle.list_text.specs.Lexing.{letter, Cut, Lexed, Unlike, Piece}
+use Rattle.list_text.specs.Grammar.{blank, digit, All-of, Numeral, written}
+use Rattle.list_text.specs.Lexing.{Cut, Lexed, Unlike, Piece}
 use Rattle.list_text.specs.Machine.{State, expects, number, after-dash, in-digits, one-digit, mark-after, step, run, stuck}
 use Rattle.list_text.specs.Reading.{Leads, Faults}
-use Rattle.list_text.proofs.Written.{Waits, number-waits}
+use Rattle.list_text.proofs.Written.{number-waits}
 use Rattle.list_text.proofs.Moves.{moves, halts, over-gap, Wants, refuses, First, mark-class}
 
 -- ---- the value of digits, one by one

@@ -1,10 +1,10 @@
 -- A text says at most one thing, and a text that says nothing has its fault at one place: where the machine gets stuck. Assumes nothing.
 use mathlib.Core.Path.{_≡_, refl, sym, ap, subst, _∙_}
-use mathlib.Core.List.{List, [], _∷_, _++_, append-assoc}
-use mathlib.Core.Logic.{_⊎_, inl, inr}
+use mathlib.Core.List.{List, _++_, append-assoc}
+use mathlib.Core.Logic.{inl, inr}
 use Prim.Native.Nat.{ℕ, suc, _+_, _≤_, _<_}
 use native.Mathlib.Omega.{arith}
-use lib.ListN.{length, take, drop}
+use lib.ListN.{take, drop}
 use Rattle.std.proofs.shelf.Lists.{take-append-drop, take-take}
 use Rattle.std.proofs.shelf.Tests.{cases-order}
 use Rattle.networks.specs.Network.{Network}
@@ -12,7 +12,7 @@ use Rattle.spans.specs.declared.minutes.Minutes.{Minutes}
 use Rattle.list_text.specs.Grammar.{Listing, Says, network, Denotes}
 use Rattle.list_text.specs.Place.{Begins, Fault-at}
 use Rattle.list_text.specs.Machine.{start, run, reads, stuck}
-use Rattle.list_text.proofs.Completions.{Accepts, accepts, gets-stuck}
+use Rattle.list_text.proofs.Completions.{accepts, gets-stuck}
 use Rattle.list_text.proofs.Written.{written-read}
 use Rattle.list_text.proofs.Readable.{read-written}
 

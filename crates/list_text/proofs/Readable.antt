@@ -6,7 +6,6 @@ use Prim.Native.Nat.{ℕ, zero, suc, _+_, _*_, _-_, _≤_, zero-le, suc-le-suc}
 use native.Mathlib.Omega.{arith}
 use lib.Dec.{eqb}
 use lib.ListN.{length}
-use lib.IntN.{ℤ}
 use Rattle.std.specs.declared.option.Option.{Option}
 use Rattle.std.specs.declared.option.Option.the-variants.{Some, None}
 use Rattle.std.proofs.shelf.Tests.{eqb-true}
@@ -15,9 +14,9 @@ use Rattle.spans.specs.MinuteKind.{minutes}
 use Rattle.networks.specs.declared.window.Window.{Window}
 use Rattle.networks.specs.Network.{Condition}
 use Rattle.list_text.specs.declared.token.Mark.{Mark}
-use Rattle.list_text.specs.declared.token.Mark.the-variants.{Open, Close, ListOpen, ListClose, Comma, Semicolon}
-use Rattle.list_text.specs.Grammar.{_⨾_, Part, Over, none, more, Blanks, byte, blank, digit, All-of, Numeral, written, with-sign, dash, free, Token, One, Natural, Integer, End, One-window, More-windows, Windows, One-row, All-rows, Listing, Says}
-use Rattle.list_text.specs.Machine.{State, finished, expects, number, after-dash, in-digits, at-end, after-I, after-In, windows-start, windows-more, rows-more, mark-after, in-window, in-row, one-digit, step, start, run, Outcome, reads, stuck, at-the-end}
+use Rattle.list_text.specs.declared.token.Mark.the-variants.{Open, Close, ListClose, Comma}
+use Rattle.list_text.specs.Grammar.{_⨾_, Part, none, more, Blanks, byte, blank, digit, All-of, Numeral, written, with-sign, dash, free, Token, One, Natural, Integer, End, One-window, More-windows, Windows, One-row, All-rows, Listing, Says}
+use Rattle.list_text.specs.Machine.{State, finished, expects, number, after-dash, in-digits, at-end, after-I, after-In, windows-start, windows-more, rows-more, mark-after, in-window, in-row, one-digit, step, start, reads, stuck, at-the-end}
 use Rattle.list_text.proofs.Completions.{Accepts, back, never}
 
 -- ---- what is still to come in a state, by the grammar

@@ -1,7 +1,7 @@
 -- Whatever the grammar writes, the machine reads, as what it says. Assumes nothing.
-use mathlib.Core.Path.{_≡_, refl, sym, ap, subst, _∙_}
+use mathlib.Core.Path.{_≡_, refl, sym, subst, _∙_}
 use mathlib.Core.List.{List, [], _∷_, _++_, append-assoc, append-nil}
-use mathlib.Core.Bool.{Bool, true, false, cond}
+use mathlib.Core.Bool.{Bool, true, false}
 use Prim.Native.Nat.{ℕ, zero, suc, _+_, _*_, _-_, _≤_}
 use native.Mathlib.Omega.{arith}
 use lib.ListN.{length}
@@ -15,8 +15,8 @@ use Rattle.spans.specs.MinuteKind.{minutes}
 use Rattle.networks.specs.declared.window.Window.{Window}
 use Rattle.networks.specs.Network.{Condition}
 use Rattle.list_text.specs.declared.token.Mark.{Mark}
-use Rattle.list_text.specs.declared.token.Mark.the-variants.{Open, Close, ListOpen, ListClose, Comma, Semicolon}
-use Rattle.list_text.specs.Grammar.{_⨾_, Part, Over, none, more, Blanks, byte, blank, digit, All-of, Numeral, written, with-sign, dash, free, Token, One, Natural, Integer, End, One-window, More-windows, Windows, One-row, All-rows, Listing, Says}
+use Rattle.list_text.specs.declared.token.Mark.the-variants.{Open, Close, ListClose, Comma}
+use Rattle.list_text.specs.Grammar.{_⨾_, Part, none, more, Blanks, blank, digit, All-of, Numeral, written, with-sign, dash, free, Token, One, Natural, Integer, End, More-windows, Windows, One-row, All-rows, Listing, Says}
 use Rattle.list_text.specs.Machine.{State, finished, expects, number, after-dash, in-digits, at-end, windows-start, windows-more, rows-more, mark-after, in-window, in-row, step, start}
 use Rattle.list_text.proofs.Completions.{Accepts, steps, takes-mark, ends-digits}
 

@@ -12,7 +12,7 @@ use Rattle.spans.specs.MinuteKind.{minutes}
 use Rattle.networks.specs.declared.window.Window.{Window}
 use Rattle.networks.specs.Network.{Condition}
 use Rattle.list_text.specs.declared.token.Mark.{Mark}
-use Rattle.list_text.specs.declared.token.Mark.the-variants.{Open, Close, ListOpen, ListClose, Comma, Semicolon}
+use Rattle.list_text.specs.declared.token.Mark.the-variants.{Open, Close, ListOpen, ListClose, Comma}
 use Rattle.list_text.specs.Grammar.{blank, digit, byte, with-sign, Listing}
 
 pub data State : Type 0 where

@@ -1,14 +1,14 @@
 -- What each question finds in rows. Assumes nothing.
 use mathlib.Core.Path.{_≡_, refl, sym, ap, _∙_}
 use mathlib.Core.List.{List, [], _∷_, _++_, map}
-use Prim.Native.Nat.{ℕ, zero, suc, _+_, _-_, _<_, _≤_, min}
+use Prim.Native.Nat.{ℕ, zero, suc, _+_, _-_, _<_, _≤_}
 use native.Mathlib.Omega.{arith}
 use lib.ListN.{length, getD, take, replicate, length-append, length-take, length-replicate}
-use Rattle.std.proofs.shelf.Lists.{getD-map, getD-past, length-map, take-all, append-nil}
+use Rattle.std.proofs.shelf.Lists.{getD-map, getD-past, length-map}
 use Rattle.networks.specs.declared.window.Window.{Window}
 use Rattle.networks.specs.declared.rows.Row.{Row}
-use Rattle.networks.specs.Network.{Condition, Network, no-condition, open-window, condition-at, window-of}
-use Rattle.networks.specs.Rows.{room, row-condition, rows-network, row-of, Made-row}
+use Rattle.networks.specs.Network.{Condition, no-condition, open-window, window-of}
+use Rattle.networks.specs.Rows.{room, row-condition, row-of, Made-row}
 use Rattle.networks.specs.Steps.{Row-there, Row-absent}
 
 -- ---- a list filled up with its default

@@ -4,7 +4,7 @@
 --     network-refusal K N room      1 to 7, where there is room for so many conditions
 --     memory-refusal n lent         8
 --     checks-refusal K N room lent  1 to 8
-use mathlib.Core.Bool.{Bool, true, false, cond, not, _&&_, _||_}
+use mathlib.Core.Bool.{Bool, true, false, cond, not, _&&_}
 use mathlib.Core.List.{List, [], _∷_}
 use Prim.Native.Nat.{ℕ, _+_, _*_, min}
 use lib.Dec.{ltb, leb, eqb}

@@ -1,8 +1,8 @@
 -- Sums and opposites behave as in an ordered group while the sizes of what is added stay within reach. Assumes nothing.
 -- Every premise is one about sizes. Of presence only 'at least' is cited: that a sum is there where the sizes allow it.
 use mathlib.Core.Path.{_≡_, refl, sym, ap, _∙_}
-use mathlib.Core.Bool.{Bool, true, false}
-use mathlib.Core.Logic.{_⊎_, inl, inr}
+use mathlib.Core.Bool.{true}
+use mathlib.Core.Logic.{inl, inr}
 use Prim.Native.Nat.{ℕ, _+_, _*_, _≤_}
 use native.Mathlib.Omega.{arith}
 use Rattle.std.specs.Options.{isSome, valueOr}

@@ -1,17 +1,16 @@
 -- Minutes show the laws: each is one of whole numbers. Assumes nothing.
-use mathlib.Core.Path.{_≡_, refl, sym, ap, _∙_}
-use mathlib.Core.Bool.{Bool, true, false, cond}
+use mathlib.Core.Path.{_≡_, refl, ap, _∙_}
+use mathlib.Core.Bool.{true}
 use mathlib.Core.Logic.{_⊎_, inl, inr}
-use Prim.Native.Nat.{ℕ, _+_, _≤_}
+use Prim.Native.Nat.{_+_, _≤_}
 use native.Mathlib.Omega.{arith}
 use borrow.Author.Differences.{ints}
 use lib.IntN.{ℤ, pos, negℤ, _+ℤ_, natAbs}
 use lib.Signed.{ltZ}
-use Rattle.std.specs.declared.option.Option.{Option}
-use Rattle.std.specs.declared.option.Option.the-variants.{Some, None}
+use Rattle.std.specs.declared.option.Option.the-variants.{Some}
 use Rattle.std.proofs.shelf.Signed.{by-ltZ}
 use Rattle.std.proofs.shelf.Tests.{le-leb, leb-true}
-use Rattle.spans.specs.Kind.{Kind, Laws, Only-within, Compared}
+use Rattle.spans.specs.Kind.{Laws, Only-within}
 use Rattle.spans.specs.MinuteKind.{minutes, minute-plus, minute-opposite, minute-kind}
 use Rattle.spans.specs.declared.minutes.Minutes.{Minutes}
 use Rattle.spans.proofs.Parts.{guard-value, guard-there, guard-test, one-of-three}

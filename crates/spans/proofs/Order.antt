@@ -1,6 +1,5 @@
 -- The order of a kind, from its laws. Assumes nothing.
-use mathlib.Core.Path.{_≡_, refl, sym, ap, _∙_, subst}
-use mathlib.Core.Bool.{Bool, true, false}
+use mathlib.Core.Path.{_≡_, refl, sym, subst}
 use mathlib.Core.Logic.{_⊎_, inl, inr}
 use Rattle.std.proofs.shelf.Tests.{both-ways, cases-bool}
 use Rattle.spans.specs.Kind.{Kind, Laws, Compared, is-less, is-same, is-greater, _<⟨_⟩_, _≤⟨_⟩_}

@@ -1,16 +1,14 @@
 -- A pair of two kinds shows the laws, from those of its parts. Assumes nothing.
 use mathlib.Core.Path.{_≡_, refl, sym, ap, _∙_}
-use mathlib.Core.Bool.{Bool, true, false, cond, not, _&&_, _||_}
+use mathlib.Core.Bool.{Bool, true, false, not, _&&_, _||_}
 use mathlib.Core.Logic.{_⊎_, inl, inr}
-use Prim.Native.Nat.{ℕ, _+_, _≤_, _<_, max}
 use native.Mathlib.Omega.{arith}
-use lib.Dec.{leb}
 use Rattle.std.specs.Options.{isSome}
 use Rattle.std.specs.declared.option.Option.{Option}
 use Rattle.std.specs.declared.option.Option.the-variants.{Some, None}
-use Rattle.std.proofs.shelf.Tests.{le-leb, leb-true, both-ways}
-use Rattle.spans.specs.Kind.{Kind, Laws, Only-within, Compared, is-less, is-same, is-greater, reach}
-use Rattle.spans.specs.PairKind.{pair, both, pair-size, pair-less, pair-plus, pair-opposite, pair-kind}
+use Rattle.std.proofs.shelf.Tests.{le-leb, leb-true}
+use Rattle.spans.specs.Kind.{Kind, Laws, Only-within, Compared, is-less, is-same, is-greater}
+use Rattle.spans.specs.PairKind.{pair, both, pair-less, pair-plus, pair-opposite, pair-kind}
 use Rattle.spans.specs.declared.pair.Pair.{Pair}
 use Rattle.spans.proofs.Parts.{guard-value, guard-there, guard-test, one-of-three}
 use Rattle.spans.proofs.Order.{irrefl, le-refl, le-antisym}

@@ -1,10 +1,8 @@
-use mathlib.Core.Path.{_≡_}
-use Prim.Native.Nat.{ℕ, _+_, _≤_}
+use Prim.Native.Nat.{ℕ}
 use native.Mathlib.Omega.{arith}
-use lib.ListN.{length, drop}
+use lib.ListN.{length}
 use Rattle.std.proofs.shelf.Tests.{cond-true, cond-false, lt-ltb, le-ltb}
 use Rattle.networks.specs.Network.{condition-at}
-use Rattle.networks.specs.Refusal.{choices}
 use Rattle.checks.proofs.Walks.{choices-more, choices-all}
 use Rattle.checks.proofs.conditions.count_choices.Needs as need
 use Rattle.checks.proofs.conditions.count_choices.Needs.{then-windows-gt1, else-windows-gt1}

@@ -1,8 +1,4 @@
-use mathlib.Core.Path.{_≡_}
-use Prim.Native.Nat.{_<_, _≤_}
-use lib.ListN.{length, getD}
 use native.Mathlib.Omega.{arith}
-use Rattle.networks.specs.Network.{condition-at}
 use Rattle.layers.proofs.Selections.{numbered, not-numbered, selected-one, selected-none, selected-outside}
 use Rattle.layers.proofs.selected.Selected.kept_windows.Needs as need
 
