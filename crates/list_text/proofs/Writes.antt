@@ -1,18 +1,19 @@
 -- What `write_dates` writes, as the grammar has it: decimal digits are the shortest numerals, headers and rows are made of them, and row follows row.
 -- Assumes nothing.
-use mathlib.Core.Path.{refl, sym, subst}
+use mathlib.Core.Path.{_≡_, refl, sym, ap, subst, _∙_}
 use mathlib.Core.List.{List, [], _∷_, _++_, append-assoc}
 use mathlib.Core.Bool.{true, false}
-use Prim.Native.Nat.{ℕ, suc, _+_, _^_, _≤_, _<_}
+use Prim.Native.Nat.{ℕ, zero, suc, _+_, _^_, _≤_, _<_}
 use native.Mathlib.Omega.{arith}
 use lib.Chars.{codes}
 use lib.Dec.{lit<}
 use lib.IntN.{ℤ, pos, negsuc, natAbs}
-use lib.ListN.{length, drop, getD}
+use lib.ListN.{length, drop, getD, length-drop}
 use borrow.Author.Needs.{needs}
 use Rattle.std.specs.Written.{decimal, signed}
 use Rattle.std.specs.declared.option.Option.the-variants.{Some}
-use Rattle.std.proofs.shelf.Lists.{drop-more, drop-all}
+use Rattle.std.proofs.shelf.Lists.{drop-more, drop-all, getD-drop}
+use Rattle.std.specs.shelf.Lists.{All}
 use Rattle.std.proofs.shelf.Elements.{all-getD}
 use Rattle.std.proofs.shelf.Numerals.{Numerals, numerals-by-fold, value-short}
 use Rattle.std.proofs.shelf.Decimals.{decimal-digit, decimal-some, length-decimal-le, digits-decimal, value-decimal}
@@ -51,6 +52,31 @@ shortest-zero = subst (Shortest 0) (decimal-digit 0 (lit< {m = 0} {n = 10} tt)) 
 shortest-signed : (z : ℤ) → natAbs z < 10 ^ 12 → Signed-shortest z (signed z)
 shortest-signed (pos n) lt = (false, n, decimal n, shortest n lt, refl, refl, λ e. absurd (search needs))
 shortest-signed (negsuc n) lt = (true, suc n, decimal (suc n), shortest (suc n) lt, refl, refl, λ e. omega arith)
+
+-- a number that has such a numeral is small
+shortest-small : (n : ℕ) (ds : List ℕ) → Shortest n ds → n < 10 ^ 12
+shortest-small n ds h = subst (λ m. m < 10 ^ 12) (h .numeral .writes) (value-short own ds 12 (h .numeral .digits) (h .numeral .few))
+
+signed-small : (z : ℤ) (bs : List ℕ) → Signed-shortest z bs → natAbs z < 10 ^ 12
+signed-small z bs (false, n, ds, s, e, b, only) = subst (λ z. natAbs z < 10 ^ 12) e (shortest-small n ds s)
+signed-small z bs (true, zero, ds, s, e, b, only) = subst (λ z. natAbs z < 10 ^ 12) e (shortest-small 0 ds s)
+signed-small z bs (true, suc n, ds, s, e, b, only) = subst (λ z. natAbs z < 10 ^ 12) e (shortest-small (suc n) ds s)
+
+-- dates that have a text are writable
+rows-small : (p : ℕ) (ds : List Minutes) (u v : List ℕ) → All-rows compact (dated-from p ds) u v → All (λ d. natAbs (d .count) < 10 ^ 12) ds
+rows-small p [] u v r = tt
+rows-small p (d ∷ ds) u v r = (signed-small (d .count) _ (r .2 .1 .2 .2 .2 .2 .2 .2 .1 .1 .2 .1 .2 .2 .1 .1), rows-small (p + 1) ds _ v (r .2 .2))
+
+pub text-writable : (ds : List Minutes) (t : List ℕ) → Text compact (dates-listing ds) t [] → Writable ds
+text-writable ds t x = record { few = shortest-small (length ds) _ (x .2 .1 .2 .1 .1); small = rows-small 1 (drop 1 ds) _ _ (x .2 .2 .1) }
+
+-- each but the first
+pub small-at : (ds : List Minutes) (p : ℕ) (e : Minutes) → 1 ≤ p → p < length ds → Writable ds → natAbs (getD ds p e .count) < 10 ^ 12
+small-at ds zero e one lt ok = absurd (omega arith)
+small-at ds (suc p) e one lt ok =
+    let l = length-drop 1 ds in
+    let at : getD (drop 1 ds) p e ≡ getD ds (suc p) e = getD-drop 1 ds p e ∙ ap (λ k. getD ds k e) (omega arith) in
+    subst (λ d. natAbs (d .count) < 10 ^ 12) at (all-getD (λ d. natAbs (d .count) < 10 ^ 12) (drop 1 ds) p e (omega arith) (ok .small))
 
 -- ---- the bytes of a header and of a row
 abbrev pub header-bytes : ℕ → List ℕ
@@ -116,11 +142,13 @@ row-writes p d few lt v = (
 -- ---- the text, row by row
 -- behind the bytes t only the rows from point p on are missing, and the last bracket
 pub record So-far (ds : List Minutes) (p : ℕ) (t : List ℕ) : Type 0 where
+  pub past : 1 ≤ p
   pub goes-on : Writable ds → (w : List ℕ) → All-rows compact (dated-from p (drop p ds)) w (93 ∷ []) → Text compact (dates-listing ds) (t ++ w) []
 
 pub so-far-header : (ds : List Minutes) (t : List ℕ)
     → (length ds < 10 ^ 12 → Writes (One compact ListOpen ⨾ Header compact (length ds) (length ds)) t) → So-far ds 1 t
 so-far-header ds t h = record {
+  past = omega arith;
   goes-on = λ ok w rows. let x = h (ok .few) w in (x .0, x .1, (w, x .2, (93 ∷ [], rows, ([], refl, refl))));
 }
 
@@ -128,9 +156,10 @@ pub so-far-row : (ds : List Minutes) (p : ℕ) (t r : List ℕ) (e : Minutes) �
     → (p < 10 ^ 12 → natAbs (getD ds p e .count) < 10 ^ 12 → Writes (One compact Semicolon ⨾ One-row compact (dated p (getD ds p e))) r)
     → So-far ds p t → So-far ds (p + 1) (t ++ r)
 so-far-row ds p t r e lt h s = record {
+  past = omega arith;
   goes-on = λ ok w rows.
       let few : length ds < 10 ^ 12 = ok .few in
-      let x = h (omega arith) (all-getD (λ d. natAbs (d .count) < 10 ^ 12) ds p e lt (ok .small)) w in
+      let x = h (omega arith) (small-at ds p e (s .past) lt ok) w in
       let here : All-rows compact (dated-from p (getD ds p e ∷ drop (p + 1) ds)) (r ++ w) (93 ∷ []) = (x .0, x .1, (w, x .2, rows)) in
       rw append-assoc (s .goes-on ok (r ++ w) (subst (λ (l : List Minutes). All-rows compact (dated-from p l) (r ++ w) (93 ∷ [])) (sym (drop-more ds p e lt)) here));
 }

@@ -1,4 +1,4 @@
--- The list text that says which date each point has. Assumes nothing.
+-- The list text that says which date each point but the first has, seen from the first. Assumes nothing.
 use mathlib.Core.Bool.{Bool, true, false}
 use mathlib.Core.List.{List, [], _∷_, _++_}
 use Prim.Native.Nat.{ℕ, _+_, _^_, _<_}
@@ -24,21 +24,22 @@ dated-from p (d ∷ ds) = dated p d ∷ dated-from (p + 1) ds
 abbrev pub dates-listing : List Minutes → Listing
 dates-listing ds = record { first = length ds; second = length ds; conditions = dated-from 1 (drop 1 ds) }
 
--- 12 digits write the number of the dates, and each of them
+-- a holder of the bytes of the compact text of the dates; none where there is no such text
+abbrev pub Text-of-dates : {S : Type 0} → (S → List ℕ) → List Minutes → Option S → Type 0
+Text-of-dates bytes ds (Some s) = Text compact (dates-listing ds) (bytes s) []
+Text-of-dates bytes ds None = (t : List ℕ) → Text compact (dates-listing ds) t [] → ⊥
+
+-- ---- said by private functions alone
+-- 12 digits write the number of the dates, and each of them but the first
 pub record Writable (ds : List Minutes) : Type 0 where
   pub few : length ds < 10 ^ 12
-  pub small : All (λ d. natAbs (d .count) < 10 ^ 12) ds
+  pub small : All (λ d. natAbs (d .count) < 10 ^ 12) (drop 1 ds)
+
+-- a test of this; where it fails, there is no text
+abbrev pub Tells-writable : List Minutes → Bool → Type 0
+Tells-writable ds true = Writable ds
+Tells-writable ds false = (t : List ℕ) → Text compact (dates-listing ds) t [] → ⊥
 
 -- bytes that are this part, whatever follows them
 abbrev pub Writes : Part → List ℕ → Type 0
 Writes f w = (v : List ℕ) → f (w ++ v) v
-
--- a test and what it tests
-abbrev pub Tells : Bool → Type 0 → Type 0
-Tells true X = X
-Tells false X = X → ⊥
-
--- a holder of the bytes of the compact text of the dates, or none where 12 digits do not write them
-abbrev pub Text-of-dates : {S : Type 0} → (S → List ℕ) → List Minutes → Option S → Type 0
-Text-of-dates bytes ds (Some s) = Writable ds × Text compact (dates-listing ds) (bytes s) []
-Text-of-dates bytes ds None = Writable ds → ⊥

@@ -4,7 +4,7 @@ ghost use Prim.Native.Nat.{_^_, _<_};
 ghost use lib.IntN.{natAbs};
 ghost use Rattle.std.specs.Of.String.{string-bytes};
 ghost use Rattle.std.specs.Vec.{made};
-ghost use Rattle.list_text.specs.Dates.{dated, dates-listing, Tells, Text-of-dates, Writable, Writes};
+ghost use Rattle.list_text.specs.Dates.{dated, dates-listing, Tells-writable, Text-of-dates, Writable, Writes};
 ghost use Rattle.list_text.specs.Grammar.{compact, One, One-row, Header, Text, _⨾_};
 ghost use Rattle.list_text.specs.declared.token.Mark.the-variants.{ListOpen, Semicolon};
 use spans::Minutes;
@@ -29,11 +29,11 @@ fn row(heap: Global, point: usize, date: Minutes) -> Result<String, AllocError>
     format!(heap, ";(0,{point},[(E({d}),E({d}))])")
 }
 
-// Whether 12 digits write the number of the dates, and each of them.
+// Whether 12 digits write the number of the dates, and each of them but the first.
 fn writable(dates: &[Minutes]) -> bool
-    ensures { λ r. ⌜ Tells r (Writable (now (dates .entry))) ⌝ }
+    ensures { λ r. ⌜ Tells-writable (now (dates .entry)) r ⌝ }
 {
-    let mut i = 0;
+    let mut i = 1;
     while i < dates.len() {
         if dates[i].count.unsigned_abs() > GREATEST {
             return false;
@@ -43,7 +43,7 @@ fn writable(dates: &[Minutes]) -> bool
     dates.len() as u64 <= GREATEST
 }
 
-// The text that says of each point but the first that its distance from the first is its date.
+// The text that gives each point but the first its date, seen from the first.
 fn written(heap: Global, dates: &[Minutes]) -> Result<String, AllocError>
     ensures { λ r. ⌜ made r (λ s. Writable (now (dates .entry)) → Text compact (dates-listing (now (dates .entry))) (string-bytes s) []) ⌝ }
 {
@@ -56,7 +56,7 @@ fn written(heap: Global, dates: &[Minutes]) -> Result<String, AllocError>
     Ok(text)
 }
 
-// The dates as compact list text; None where 12 digits do not write them.
+// The dates from point 1 on as compact list text; None where 12 digits do not write them or their number.
 pub fn write_dates(heap: Global, dates: &[Minutes]) -> Result<Option<String>, AllocError>
     ensures { λ r. ⌜ made r (λ o. Text-of-dates string-bytes (now (dates .entry)) o) ⌝ }
 {
