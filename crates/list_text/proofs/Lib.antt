@@ -9,4 +9,5 @@ pub mod Words
 pub mod Listings
 pub mod Texts
 pub mod Fills
+pub mod Styles
 pub mod Writes

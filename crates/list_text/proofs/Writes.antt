@@ -20,7 +20,9 @@ use Rattle.std.proofs.shelf.Decimals.{decimal-digit, decimal-some, length-decim
 use Rattle.spans.specs.declared.minutes.Minutes.{Minutes}
 use Rattle.list_text.specs.declared.token.Mark.the-variants.{ListOpen, Semicolon}
 use Rattle.list_text.specs.Grammar.{digit, All-of, written, Shortest, Signed-shortest, compact, One, End, Header, One-row, All-rows, Text, _⨾_}
-use Rattle.list_text.specs.Dates.{dated, dated-from, dates-listing, Writable, Writes}
+use Rattle.std.proofs.shelf.Tests.{cond-true, eq-eqb}
+use Rattle.list_text.specs.Dates.{dated, dated-from, dates-listing, Dates-text, Writable, Writes}
+use Rattle.list_text.proofs.Styles.{compact-says}
 
 -- ---- numbers
 -- the digits and their value are those of the library
@@ -164,6 +166,16 @@ so-far-row ds p t r e lt h s = record {
       rw append-assoc (s .goes-on ok (r ++ w) (subst (λ (l : List Minutes). All-rows compact (dated-from p l) (r ++ w) (93 ∷ [])) (sym (drop-more ds p e lt)) here));
 }
 
-pub so-far-end : (ds : List Minutes) (p : ℕ) (t : List ℕ) → length ds ≤ p → So-far ds p t → Writable ds → Text compact (dates-listing ds) (t ++ (93 ∷ [])) []
+dates-text : (ds : List Minutes) (t : List ℕ) → Text compact (dates-listing ds) t [] → Dates-text ds t
+dates-text ds t x = record {
+  compactly = x;
+  denotes = (
+    dates-listing ds,
+    compact-says (dates-listing ds) t x,
+    ap (λ n. record { points = n; conditions = dates-listing ds .conditions }) (cond-true _ (length ds) 0 (eq-eqb (length ds) (length ds) refl)),
+  );
+}
+
+pub so-far-end : (ds : List Minutes) (p : ℕ) (t : List ℕ) → length ds ≤ p → So-far ds p t → Writable ds → Dates-text ds (t ++ (93 ∷ []))
 so-far-end ds p t le s ok =
-    s .goes-on ok (93 ∷ []) (subst (λ (l : List Minutes). All-rows compact (dated-from p l) (93 ∷ []) (93 ∷ [])) (sym (drop-all p ds le)) refl)
+    dates-text ds _ (s .goes-on ok (93 ∷ []) (subst (λ (l : List Minutes). All-rows compact (dated-from p l) (93 ∷ []) (93 ∷ [])) (sym (drop-all p ds le)) refl))

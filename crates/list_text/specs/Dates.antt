@@ -8,8 +8,8 @@ use Rattle.std.specs.declared.option.Option.{Option}
 use Rattle.std.specs.declared.option.Option.the-variants.{Some, None}
 use Rattle.std.specs.shelf.Lists.{All}
 use Rattle.spans.specs.declared.minutes.Minutes.{Minutes}
-use Rattle.networks.specs.Network.{Condition}
-use Rattle.list_text.specs.Grammar.{Part, Listing, Text, compact}
+use Rattle.networks.specs.Network.{Condition, Network}
+use Rattle.list_text.specs.Grammar.{Part, Listing, Text, compact, Denotes}
 
 -- point p lies at the date d, seen from point 0
 abbrev pub dated : ℕ → Minutes → Condition Minutes
@@ -24,9 +24,18 @@ dated-from p (d ∷ ds) = dated p d ∷ dated-from (p + 1) ds
 abbrev pub dates-listing : List Minutes → Listing
 dates-listing ds = record { first = length ds; second = length ds; conditions = dated-from 1 (drop 1 ds) }
 
+-- the network that it is list text of
+abbrev pub dates-network : List Minutes → Network Minutes
+dates-network ds = record { points = length ds; conditions = dated-from 1 (drop 1 ds) }
+
+-- t is the compact list text of the dates, and denotes their network
+pub record Dates-text (ds : List Minutes) (t : List ℕ) : Type 0 where
+  pub compactly : Text compact (dates-listing ds) t []
+  pub denotes : Denotes t (dates-network ds)
+
 -- a holder of the bytes of the compact text of the dates; none where there is no such text
 abbrev pub Text-of-dates : {S : Type 0} → (S → List ℕ) → List Minutes → Option S → Type 0
-Text-of-dates bytes ds (Some s) = Text compact (dates-listing ds) (bytes s) []
+Text-of-dates bytes ds (Some s) = Dates-text ds (bytes s)
 Text-of-dates bytes ds None = (t : List ℕ) → Text compact (dates-listing ds) t [] → ⊥
 
 -- ---- said by private functions alone

@@ -1,11 +1,10 @@
 // Writes dates as list text, with no blanks and the shortest numerals.
-ghost use mathlib.Core.List.{[]};
 ghost use Prim.Native.Nat.{_^_, _<_};
 ghost use lib.IntN.{natAbs};
 ghost use Rattle.std.specs.Of.String.{string-bytes};
 ghost use Rattle.std.specs.Vec.{made};
-ghost use Rattle.list_text.specs.Dates.{dated, dates-listing, Tells-writable, Text-of-dates, Writable, Writes};
-ghost use Rattle.list_text.specs.Grammar.{compact, One, One-row, Header, Text, _⨾_};
+ghost use Rattle.list_text.specs.Dates.{dated, Dates-text, Tells-writable, Text-of-dates, Writable, Writes};
+ghost use Rattle.list_text.specs.Grammar.{compact, One, One-row, Header, _⨾_};
 ghost use Rattle.list_text.specs.declared.token.Mark.the-variants.{ListOpen, Semicolon};
 use spans::Minutes;
 use std::alloc::AllocError;
@@ -45,7 +44,7 @@ fn writable(dates: &[Minutes]) -> bool
 
 // The text that gives each point but the first its date, seen from the first.
 fn written(heap: Global, dates: &[Minutes]) -> Result<String, AllocError>
-    ensures { λ r. ⌜ made r (λ s. Writable (now (dates .entry)) → Text compact (dates-listing (now (dates .entry))) (string-bytes s) []) ⌝ }
+    ensures { λ r. ⌜ made r (λ s. Writable (now (dates .entry)) → Dates-text (now (dates .entry)) (string-bytes s)) ⌝ }
 {
     let mut text = header(heap, dates.len())?;
     for point in 1..dates.len() {

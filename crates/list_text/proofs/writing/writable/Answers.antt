@@ -28,11 +28,13 @@ pub loop-i-again : need.loop-i-again
 loop-i-again c =
     let i = c .loop-i .i in
     let size : c .unsigned-abs .result ≡ natAbs (getD (c .args .dates .now) i (record { count = pos 0 }) .count) = search needs in
-    let few = c .if-unsigned-abs-gt-GREATEST .left in
-    (omega arith, λ k one lt. elim (cases-lt k i) [
-      inl h ↦ c .loop-i .inv .1 k one h
-    | inr h ↦ let e : i ≡ k = omega arith in subst (λ j. natAbs (getD (c .args .dates .now) j (record { count = pos 0 }) .count) < 10 ^ 12) e (omega arith)
-    ])
+    let few = c .if-unsigned-abs-gt-GREATEST .left in (
+      omega arith,
+      λ k one lt. elim (cases-lt k i) [
+        | inl h ↦ c .loop-i .inv .1 k one h
+        | inr h ↦ let e : i ≡ k = omega arith in subst (λ j. natAbs (getD (c .args .dates .now) j (record { count = pos 0 }) .count) < 10 ^ 12) e (omega arith)
+      ],
+    )
 
 pub returns : need.returns
 returns c =
@@ -40,8 +42,8 @@ returns c =
     let left = c .loop-i-test .left in
     let l = length-drop 1 ds in
     elim (cases-lt 999999999999 (length ds)) [
-      inl h ↦ subst (Tells-writable ds) (sym (lt-leb (length ds) 999999999999 h)) (λ t x. let few = text-writable ds t x .few in omega arith)
-    | inr h ↦ subst (Tells-writable ds) (sym (le-leb (length ds) 999999999999 h)) (record {
+      | inl h ↦ subst (Tells-writable ds) (sym (lt-leb (length ds) 999999999999 h)) (λ t x. let few = text-writable ds t x .few in omega arith)
+      | inr h ↦ subst (Tells-writable ds) (sym (le-leb (length ds) 999999999999 h)) (record {
         few = omega arith;
         small = all-from-getD (λ d. natAbs (d .count) < 10 ^ 12) (drop 1 ds) (record { count = pos 0 })
             (λ k lt. subst (λ d. natAbs (d .count) < 10 ^ 12) (sym (getD-drop 1 ds k (record { count = pos 0 }))) (c .loop-i .inv .1 (1 + k) (omega arith) (omega arith)));

@@ -3,8 +3,7 @@ use mathlib.Core.Path.{_≡_, sym, subst}
 use mathlib.Core.List.{[], _∷_, _++_}
 use native.Mathlib.Omega.{arith}
 use Rattle.std.specs.Of.String.{string-bytes}
-use Rattle.list_text.specs.Dates.{dates-listing}
-use Rattle.list_text.specs.Grammar.{compact, Text}
+use Rattle.list_text.specs.Dates.{Dates-text}
 use Rattle.list_text.proofs.Writes.{So-far, so-far-header, so-far-row, so-far-end}
 use Rattle.list_text.proofs.writing.written.Needs as need
 
@@ -19,4 +18,4 @@ loop-point-again c =
 pub returns : need.returns
 returns c =
     let more : string-bytes (c .push-str-2 .last .self) ≡ string-bytes (c .loop-point .text) ++ (93 ∷ []) = search needs in
-    λ ok. subst (λ u. Text compact (dates-listing (c .args .dates .now)) u []) (sym more) (so-far-end _ (c .loop-point .point) _ (omega arith) (c .loop-point .inv) ok)
+    λ ok. subst (Dates-text (c .args .dates .now)) (sym more) (so-far-end _ (c .loop-point .point) _ (omega arith) (c .loop-point .inv) ok)
