@@ -1,4 +1,4 @@
--- How a text is cut into tokens. No public promise is said by these. Assumes nothing.
+-- How a text is cut into tokens. Said by private functions alone, but for `Inside`. Assumes nothing.
 use mathlib.Core.Path.{_≡_}
 use mathlib.Core.List.{List, [], _∷_, _++_}
 use mathlib.Core.Bool.{Bool, true, false, cond, _||_, _&&_}

@@ -1,5 +1,5 @@
 -- What it is to read on from a place: the machine goes from a state at p to a state at q, or gets stuck at a place.
--- `conditions-from` is what a `ListText` means, and `read` promises that this is what its text denotes; the others are said by private functions alone. Assumes nothing.
+-- `conditions-from` is what a `ListText` means, and `read` promises that this is what its text denotes; `Readable` is what `fill` promises under and `read` promises of what it makes. The others are said by private functions alone. Assumes nothing.
 use mathlib.Core.Path.{_≡_}
 use mathlib.Core.Logic.{_⊎_}
 use mathlib.Core.List.{List, [], _∷_, _++_}

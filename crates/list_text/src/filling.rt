@@ -7,7 +7,7 @@ use crate::rows::next_row;
 use networks::Row;
 use spans::Minutes;
 
-// The rows behind `from`, those numbered from `first` on, into the front of `rows`; how many there are.
+// The rows behind `from`, those numbered from `first` on, into the front of `rows`; how many were copied.
 pub fn fill_rows(text: &[u8], from: usize, first: usize, rows: &mut [Row<Minutes>]) -> usize
     requires { ⌜ Inside (now text) from ⌝ }
     ensures { λ r. ⌜ (Readable (now (text .entry)) from → Filled (conditions-from (now (text .entry)) from) first (now (rows .entry)) (now (rows .exit)) r) ⌝ }

@@ -107,7 +107,7 @@ fn writes(rt: LibcRuntime) -> Result<(), Fail> {
     )
 }
 
-// A date of more than 12 digits is not written.
+// A date of more than 12 digits is not written; that of point 0 never is, so it may be any.
 #[test]
 fn writes_no_long_date(rt: LibcRuntime) -> Result<(), Fail> {
     for date in [1000000000000, -1000000000000, i64::MIN] {
@@ -116,6 +116,11 @@ fn writes_no_long_date(rt: LibcRuntime) -> Result<(), Fail> {
             None => {}
         }
     }
+    check_written(
+        rt,
+        &[minutes(i64::MIN), minutes(5)],
+        "[(2,2,[]);(0,1,[(E(5),E(5))])]",
+    )?;
     check_written(
         rt,
         &[minutes(0), minutes(-999999999999)],
