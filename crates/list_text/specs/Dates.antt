@@ -38,13 +38,13 @@ abbrev pub Text-of-dates : {S : Type 0} → (S → List ℕ) → List Minutes �
 Text-of-dates bytes ds (Some s) = Dates-text ds (bytes s)
 Text-of-dates bytes ds None = (t : List ℕ) → Text compact (dates-listing ds) t [] → ⊥
 
--- ---- said by private functions alone
--- 12 digits write the number of the dates, and each of them but the first
+-- they have a text: 12 digits write the number of the dates, and each of them but the first
 pub record Writable (ds : List Minutes) : Type 0 where
   pub few : length ds < 10 ^ 12
   pub small : All (λ d. natAbs (d .count) < 10 ^ 12) (drop 1 ds)
 
--- a test of this; where it fails, there is no text
+-- ---- said by private functions alone
+-- a test of whether dates are writable; where it fails, there is no text
 abbrev pub Tells-writable : List Minutes → Bool → Type 0
 Tells-writable ds true = Writable ds
 Tells-writable ds false = (t : List ℕ) → Text compact (dates-listing ds) t [] → ⊥

@@ -2,7 +2,7 @@
 ghost use Prim.Native.Nat.{_^_, _<_};
 ghost use lib.IntN.{natAbs};
 ghost use Rattle.std.specs.Of.String.{string-bytes};
-ghost use Rattle.std.specs.Vec.{made};
+ghost use Rattle.std.specs.Vec.{made, refused};
 ghost use Rattle.list_text.specs.Dates.{dated, Dates-text, Tells-writable, Text-of-dates, Writable, Writes};
 ghost use Rattle.list_text.specs.Grammar.{compact, One, One-row, Header, _⨾_};
 ghost use Rattle.list_text.specs.declared.token.Mark.the-variants.{ListOpen, Semicolon};
@@ -56,8 +56,10 @@ fn written(heap: Global, dates: &[Minutes]) -> Result<String, AllocError>
 }
 
 // The dates from point 1 on as compact list text; None where 12 digits do not write them or their number.
+// Where memory is wanting, Err; dates that have no text never get that.
 pub fn write_dates(heap: Global, dates: &[Minutes]) -> Result<Option<String>, AllocError>
-    ensures { λ r. ⌜ made r (λ o. Text-of-dates string-bytes (now (dates .entry)) o) ⌝ }
+    ensures text { λ r. ⌜ made r (λ o. Text-of-dates string-bytes (now (dates .entry)) o) ⌝ }
+    ensures writable { λ r. ⌜ refused r (λ e. Writable (now (dates .entry))) ⌝ }
 {
     if !writable(dates) {
         return Ok(None);
