@@ -50,10 +50,10 @@ First (Stray w) c = Odd c
 First Finish c = ⊥
 
 pub begins : (t : List ℕ) (p q : ℕ) (x : Token) → Cut t p x q → (drop p t ≡ []) ⊎ ((c : ℕ) × (u : List ℕ) × (drop p t ≡ c ∷ u) × First x c)
-begins t p q (Bracket m w) (lt, e, is) = inr (getD t p 0, drop (p + 1) t, drop-more t p 0 lt, is)
+begins t p q (Bracket m w) (lt, e, is, bytes) = inr (getD t p 0, drop (p + 1) t, drop-more t p 0 lt, is)
 begins t p q (Number w) (lt, h) = inr (h .first, h .others ++ drop q t, h .whole ∙ ap (λ y. y ++ drop q t) (h .is), h .begins)
 begins t p q (Word w) (lt, h) = inr (h .first, h .others ++ drop q t, h .whole ∙ ap (λ y. y ++ drop q t) (h .is), h .begins)
-begins t p q (Stray w) (lt, e, h) = inr (getD t p 0, drop (p + 1) t, drop-more t p 0 lt, h)
+begins t p q (Stray w) (lt, e, h, bytes) = inr (getD t p 0, drop (p + 1) t, drop-more t p 0 lt, h)
 begins t p q Finish (e, _) = inl (drop-all p t (omega arith))
 
 -- what the byte of a mark is not
@@ -123,7 +123,7 @@ module _ {t : List ℕ} {p : ℕ} {x : Lexeme} (h : Lexed t p x) where
   takes s k m w e is = record { leads = over-gap s w t p (x .place) (h .gap) ∙ over (x .token) (h .token) is }
     where
       over : (y : Token) → Cut t (x .place) y (x .after) → mark-of y ≡ Some m → run (x .place) s (drop (x .place) t) ≡ run (x .after) k (drop (x .after) t)
-      over (Bracket n b) (lt, eq, at) is =
+      over (Bracket n b) (lt, eq, at, bytes) is =
           let same : n ≡ m = cc in
           moves-at s k t (x .place) lt (ap (step s) (at ∙ ap byte same) ∙ e) ∙ ap (λ i. run i k (drop i t)) (sym eq)
       over (Number b) cut is = absurd (grind arith)
@@ -139,7 +139,7 @@ module _ {t : List ℕ} {p : ℕ} {x : Lexeme} (h : Lexed t p x) where
   mark-onward m is = over (x .token) (h .token) is
     where
       over : (y : Token) → Cut t (x .place) y (x .after) → mark-of y ≡ Some m → p < x .after
-      over (Bracket n b) (lt, eq, at) is = omega (arith, h .gap .from)
+      over (Bracket n b) (lt, eq, at, bytes) is = omega (arith, h .gap .from)
       over (Number b) cut is = absurd (grind arith)
       over (Word b) cut is = absurd (grind arith)
       over (Stray b) cut is = absurd (grind arith)

@@ -51,3 +51,7 @@ piece First P t p q lt f h =
       within = h .within;
       long = (let l : length (take (q - p) (drop p t)) ≡ suc (length ds) = ap length w in omega arith);
     }
+
+-- a piece of one byte
+pub one-byte : (t : List ℕ) (p : ℕ) → p < length t → take ((p + 1) - p) (drop p t) ≡ getD t p 0 ∷ []
+one-byte t p lt = let one : (p + 1) - p ≡ 1 = omega arith in ap (λ n. take n (drop p t)) one ∙ ap (take 1) (drop-more t p 0 lt)

@@ -58,10 +58,10 @@ pub record Piece (First : ℕ → Type 0) (P : ℕ → Bool) (t w : List ℕ) (p
   pub long : q ≡ p + length w
 
 abbrev pub Cut : List ℕ → ℕ → Token → ℕ → Type 0
-Cut t p (Bracket m w) q = (p < length t) × (q ≡ p + 1) × (getD t p 0 ≡ byte m)
+Cut t p (Bracket m w) q = (p < length t) × (q ≡ p + 1) × (getD t p 0 ≡ byte m) × (w .now ≡ getD t p 0 ∷ [])
 Cut t p (Number w) q = (p < length t) × Piece (λ c. (eqb c 45 || digit c) ≡ true) digit t (w .now) p q
 Cut t p (Word w) q = (p < length t) × Piece (λ c. letter c ≡ true) letter t (w .now) p q
-Cut t p (Stray w) q = (p < length t) × (q ≡ p + 1) × Odd (getD t p 0)
+Cut t p (Stray w) q = (p < length t) × (q ≡ p + 1) × Odd (getD t p 0) × (w .now ≡ getD t p 0 ∷ [])
 Cut t p Finish q = (p ≡ length t) × (q ≡ p)
 
 -- the next token from p on
