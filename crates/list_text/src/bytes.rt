@@ -1,4 +1,5 @@
 // Classes of bytes, and how far bytes of a class reach.
+// For this crate alone: what a function here requires, each of its callers proves.
 ghost use mathlib.Core.Path.{_≡_};
 ghost use Prim.Native.Nat.{_≤_};
 ghost use lib.ListN.{length};
@@ -22,7 +23,7 @@ fn is_of(class: Class, b: u8) -> bool
 }
 
 // The place behind the bytes of the class that stand from `from` on.
-pub fn past(class: Class, text: &[u8], from: usize) -> usize
+pub(crate) fn past(class: Class, text: &[u8], from: usize) -> usize
     requires { ⌜ from ≤ length (now text) ⌝ }
     ensures { λ r. ⌜ Passed (in-class class) (now (text .entry)) from r ⌝ }
 {

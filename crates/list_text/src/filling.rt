@@ -1,4 +1,5 @@
 // Copies the conditions of a list text into lent rows, in one pass over the text.
+// For this crate alone: what a function here requires, each of its callers proves.
 ghost use Prim.Native.Nat.{_<_};
 ghost use Rattle.list_text.specs.Filling.{Filled};
 ghost use Rattle.list_text.specs.Lexing.{Inside};
@@ -8,7 +9,7 @@ use networks::Row;
 use spans::Minutes;
 
 // The rows behind `from`, those numbered from `first` on, into the front of `rows`; how many were copied.
-pub fn fill_rows(text: &[u8], from: usize, first: usize, rows: &mut [Row<Minutes>]) -> usize
+pub(crate) fn fill_rows(text: &[u8], from: usize, first: usize, rows: &mut [Row<Minutes>]) -> usize
     requires { ⌜ Inside (now text) from ⌝ }
     ensures { λ r. ⌜ (Readable (now (text .entry)) from → Filled (conditions-from (now (text .entry)) from) first (now (rows .entry)) (now (rows .exit)) r) ⌝ }
 {

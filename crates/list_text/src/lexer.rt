@@ -1,4 +1,5 @@
 // Cuts a text into tokens, from a place on. It never fails: what is wrong with a token is for the reader to say.
+// For this crate alone: what a function here requires, each of its callers proves.
 ghost use mathlib.Core.Path.{_≡_};
 ghost use mathlib.Core.Bool.{false};
 ghost use Prim.Native.Nat.{_≤_, _<_};
@@ -43,7 +44,7 @@ fn token_at(text: &[u8], start: usize) -> (Token, usize)
     }
 }
 
-pub fn is_mark(token: Token, mark: Mark) -> bool
+pub(crate) fn is_mark(token: Token, mark: Mark) -> bool
     ensures { λ r. ⌜ Decides r (mark-of (token .entry) ≡ Some mark) ⌝ }
 {
     match token {
@@ -52,7 +53,7 @@ pub fn is_mark(token: Token, mark: Mark) -> bool
     }
 }
 
-pub fn is_finish(token: Token) -> bool
+pub(crate) fn is_finish(token: Token) -> bool
     ensures { λ r. ⌜ Decides r (token .entry ≡ Finish) ⌝ }
 {
     match token {
@@ -62,7 +63,7 @@ pub fn is_finish(token: Token) -> bool
 }
 
 // The next token from a place on.
-pub fn next(text: &[u8], from: usize) -> Lexeme
+pub(crate) fn next(text: &[u8], from: usize) -> Lexeme
     requires { ⌜ Inside (now text) from ⌝ }
     ensures { λ r. ⌜ Lexed (now (text .entry)) from r ⌝ }
 {

@@ -1,4 +1,5 @@
 // Reads the numbers of a text. Each function answers what it read and the place behind it, or the place of the fault.
+// For this crate alone: what a function here requires, each of its callers proves.
 ghost use mathlib.Core.Path.{_≡_};
 ghost use mathlib.Core.Bool.{Bool};
 ghost use mathlib.Core.Logic.{_⊎_};
@@ -16,7 +17,7 @@ use crate::token::Mark;
 use crate::token::Token;
 
 // The place behind the mark, which has to come next.
-pub fn expect(text: &[u8], from: usize, mark: Mark) -> Result<usize, usize>
+pub(crate) fn expect(text: &[u8], from: usize, mark: Mark) -> Result<usize, usize>
     requires { ⌜ Inside (now text) from ⌝ }
     ensures behind { λ r. ⌜ made r (λ q. Behind (now (text .entry)) from q) ⌝ }
     ensures reads { λ r. ⌜ ((k : State) → Passes (now (text .entry)) from (expects mark k) k r) ⌝ }
@@ -49,7 +50,7 @@ fn value(digits: &[u8], place: usize) -> Result<u64, usize>
 }
 
 // A number, with a minus or not where a sign may stand.
-pub fn numeral(text: &[u8], from: usize, sign: bool) -> Result<((bool, u64), usize), usize>
+pub(crate) fn numeral(text: &[u8], from: usize, sign: bool) -> Result<((bool, u64), usize), usize>
     requires { ⌜ Inside (now text) from ⌝ }
     ensures behind { λ r. ⌜ made r (λ v. Behind (now (text .entry)) from (v .1)) ⌝ }
     ensures small { λ r. ⌜ made r (λ v. v .0 .1 < 10 ^ 12) ⌝ }

@@ -1,4 +1,5 @@
 // Reads rows and the header. Each function answers what it read and the place behind it, or the place of the fault.
+// For this crate alone: what a function here requires, each of its callers proves.
 ghost use mathlib.Core.Path.{_≡_};
 ghost use mathlib.Core.List.{[]};
 ghost use Prim.Native.Nat.{_<_};
@@ -100,7 +101,7 @@ fn row(text: &[u8], from: usize, pick: usize) -> Result<(Row<Minutes>, usize), u
 }
 
 // The rows up to the last bracket: how many there are, and row number `j` with its windows from `pick` on.
-pub fn rows(
+pub(crate) fn rows(
     text: &[u8],
     from: usize,
     j: usize,
@@ -132,7 +133,7 @@ pub fn rows(
 }
 
 // The first bracket and the header: its two numbers.
-pub fn header(text: &[u8]) -> Result<((usize, usize), usize), usize>
+pub(crate) fn header(text: &[u8]) -> Result<((usize, usize), usize), usize>
     requires { ⌜ Inside (now text) 0 ⌝ }
     ensures behind { λ r. ⌜ made r (λ v. Behind (now (text .entry)) 0 (v .1)) ⌝ }
     ensures reads { λ r. ⌜ Reads (now (text .entry)) 0 start (λ v. rows-more (v .0) (v .1) []) r ⌝ }
@@ -150,7 +151,7 @@ pub fn header(text: &[u8]) -> Result<((usize, usize), usize), usize>
 }
 
 // The row behind the next semicolon and the place behind it; none where no row follows.
-pub fn next_row(text: &[u8], from: usize) -> Option<(Row<Minutes>, usize)>
+pub(crate) fn next_row(text: &[u8], from: usize) -> Option<(Row<Minutes>, usize)>
     requires { ⌜ Inside (now text) from ⌝ }
     ensures { λ r. ⌜ Next-row (now (text .entry)) from r ⌝ }
 {

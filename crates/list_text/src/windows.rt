@@ -1,4 +1,5 @@
 // Reads ends and windows. Each function answers what it read and the place behind it, or the place of the fault.
+// For this crate alone: what a function here requires, each of its callers proves.
 ghost use mathlib.Core.Path.{_≡_};
 ghost use mathlib.Core.List.{List, [], _∷_, _++_};
 ghost use Prim.Native.Nat.{_<_, _^_};
@@ -83,7 +84,7 @@ fn end(text: &[u8], from: usize) -> Result<(Option<Minutes>, usize), usize>
 }
 
 // A window behind its first bracket.
-pub fn window(text: &[u8], from: usize) -> Result<(Window<Minutes>, usize), usize>
+pub(crate) fn window(text: &[u8], from: usize) -> Result<(Window<Minutes>, usize), usize>
     requires { ⌜ Inside (now text) from ⌝ }
     ensures behind { λ r. ⌜ made r (λ v. Behind (now (text .entry)) from (v .1)) ⌝ }
     ensures reads { λ r. ⌜ ((ws : List (WindowOf MinutesOf)) (k : List (WindowOf MinutesOf) → State) → Reads (now (text .entry)) from (in-window ws k) (λ w. windows-more (ws ++ (w ∷ [])) k) r) ⌝ }
