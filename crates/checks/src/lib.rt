@@ -1,4 +1,6 @@
 // The checks 1 to 8, which tighten, solve, range and post make first: the first refusal that `Refusal` gives, or none.
+#![tactic(auto)]
+
 ghost use Rattle.std.specs.Prelude.{◌≡◌, true, is_ok};
 ghost use Rattle.networks.specs.Limits.{most_conditions};
 ghost use Rattle.networks.specs.Refusal.{points_refusal, checks_refusal};

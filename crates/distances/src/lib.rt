@@ -1,4 +1,6 @@
 // Distances: the matrix of least totals of any source's hulls, or a cycle of edges that adds up below zero.
+#![tactic(auto)]
+
 ghost use Rattle.distances.specs.Tightening.{Tightens};
 ghost use Rattle.distances.specs.Decided.{NetworksDecided};
 

@@ -3,6 +3,8 @@
 //
 // A condition is the numbers: from, to, mark, low end, mark, high end. An end is there where its mark is above zero; it is one number, the minute, or
 // two, the minute and the rank, and they stand there whether it is or not. A point's number below zero names no point.
+#![tactic(auto)]
+
 ghost use Rattle.std.specs.Prelude.{length};
 ghost use Rattle.spans.specs.MinuteKind.{minute_kind};
 ghost use Rattle.spans.specs.PairKind.{pair_kind};

@@ -1,4 +1,6 @@
 // Layers over any source: its hulls, a selection of its windows, and a selection made in part.
+#![tactic(auto)]
+
 mod chosen;
 mod hull;
 mod selected;

@@ -1,5 +1,7 @@
 // List text of at most 65,536 bytes: read in place as exactly the network that it denotes, or turned away with the place of its fault.
 // A longer one is turned away. And dates written as list text.
+#![tactic(auto)]
+
 mod bytes;
 mod filling;
 mod lexer;

@@ -1,4 +1,6 @@
 // What list texts mean, and where the faults of others lie.
+#![tactic(auto)]
+
 #[cfg(test)]
 mod copies;
 #[cfg(test)]

@@ -1,4 +1,6 @@
 // Networks: what a source of conditions means, rows as a source, and the refusals with their numbers.
+#![tactic(auto)]
+
 mod fault;
 mod lent;
 mod limits;

@@ -1,4 +1,6 @@
 // What the checks, the sources and the layers answer on examples.
+#![tactic(auto)]
+
 #[cfg(test)]
 mod checking;
 #[cfg(test)]

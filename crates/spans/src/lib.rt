@@ -1,4 +1,6 @@
 // Spans: signed distances in time. A kind of spans is a type that implements `Span`; `Minutes` and `MinuteRank` are two.
+#![tactic(auto)]
+
 mod minutes;
 mod pair;
 mod span;

@@ -1,4 +1,6 @@
 // What the two kinds of spans answer on examples.
+#![tactic(auto)]
+
 #[cfg(test)]
 mod minute_rank;
 #[cfg(test)]

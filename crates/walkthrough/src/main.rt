@@ -1,4 +1,6 @@
 // A crane job from start to end: a brake change of 430 minutes between two vessels, told step by step.
+#![tactic(auto)]
+
 mod job;
 mod story;
 mod tightened;
