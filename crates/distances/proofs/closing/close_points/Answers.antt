@@ -44,7 +44,7 @@ loop-k-preserved g c =
     let relaxed = c.relax-stage.ensures in
     let below : c.loop-k.k < N.points = omega arith in (
       standing_steps g.met.Span.Span.lawful N c.requires.legal (numbers n c.fill-edges.new.codes) (table n c.loop-k.matrix) (numbers n c.loop-k.middles)
-          c.loop-k.k c.loop-k.invariant.0 below _ _ c.in-default.ensures relaxed.matrix relaxed.middles,
+          c.loop-k.k c.loop-k.invariant.0 below _ _ c.in_default.ensures relaxed.matrix relaxed.middles,
       relaxed.rest ∙ c.loop-k.invariant.1,
     )
 

@@ -4,7 +4,7 @@ use Rattle.distances.specs.Table.{shortens}
 use Rattle.distances.proofs.Matrices.{square_outside, rows_all}
 use Rattle.distances.proofs.Relaxing.{Next, next_matrix, next_middles, pass_matrix, pass_middles, same_matrix, same_middles, stage_keeps, middle_keeps, no_way}
 use Rattle.distances.proofs.relax.relax_stage.Goals as goal
-use Rattle.distances.proofs.relax.relax_stage.Goals.{then-i-k+in-Some, then-i-k+in-default, else-i-k}
+use Rattle.distances.proofs.relax.relax_stage.Goals.{then-i-k+in-Some, then-i-k+in_default, else-i-k}
 
 pub loop-i-preserved : goal.loop-i-preserved
 loop-i-preserved g c =
@@ -27,8 +27,8 @@ loop-i-preserved g c =
             next_middles laws n k d t m c.loop-i.middles w.relax-row.new.middles inv.1 w.relax-row.ensures.middles,
             w.relax-row.ensures.rest ∙ inv.2,
           )
-      | then-i-k+in-default w ↦
-          let e = sym w.in-default.ensures in
+      | then-i-k+in_default w ↦
+          let e = sym w.in_default.ensures in
           simp (w.matrix_is, w.middles-is)
           (pass_matrix laws n k d t e, pass_middles laws n k d t m c.loop-i.middles e inv.1, inv.2)
       | else-i-k w ↦

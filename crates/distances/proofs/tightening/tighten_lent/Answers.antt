@@ -9,14 +9,14 @@ use Rattle.distances.proofs.Deciding.{decided}
 use Rattle.distances.proofs.Contradictions.{after_refusal, after_passing}
 use Rattle.distances.proofs.tightening.tighten_lent.Goals as goal
 
-pub returns-in-err-check : goal.returns-in-err-check
-returns-in-err-check g c =
+pub returns-in_err-check : goal.returns-in_err-check
+returns-in_err-check g c =
     let N = g.T.Source.means c.args.source.now in
-    let f = c.in-err-check.field-0.0 in
+    let f = c.in_err-check.field-0.0 in
     let p = err_from_is_err_and c.from-residual.result c.from-residual.ensures.1 in
     record {
       tightened = rw (p.1, p.2) (after_refusal g.Span.Span.kind N c.args.matrix.now c.args.cycle.now _ (Err f) c.args.matrix.now c.args.cycle.now
-          (c.in-err-check.ensures.refusal ∙ ap (checks_refusal g.Span.Span.kind N most_conditions) c.requires) (refusal_of f) refl refl refl);
+          (c.in_err-check.ensures.refusal ∙ ap (checks_refusal g.Span.Span.kind N most_conditions) c.requires) (refusal_of f) refl refl refl);
       networks = λ N legal. (decided g.met.Span.Span.lawful N legal, cycle_no_plan g.met.Span.Span.lawful N legal);
     }
 
@@ -25,6 +25,6 @@ returns g c =
     let N = g.T.Source.means c.args.source.now in
     record {
       tightened = after_passing g.Span.Span.kind N c.args.matrix.now c.args.cycle.now _ c.tighten-checked.result c.tighten-checked.new.matrix c.tighten-checked.new.cycle
-          (c.in-ok-check.ensures.refusal ∙ ap (checks_refusal g.Span.Span.kind N most_conditions) c.requires) c.tighten-checked.ensures;
+          (c.in_ok-check.ensures.refusal ∙ ap (checks_refusal g.Span.Span.kind N most_conditions) c.requires) c.tighten-checked.ensures;
       networks = λ N legal. (decided g.met.Span.Span.lawful N legal, cycle_no_plan g.met.Span.Span.lawful N legal);
     }

@@ -42,7 +42,7 @@ returns c = λ r.
     let kept = l.auto.rows in
     filled_full c.args.text.now c.args.from l.p c.args.first l.count l.filled c.args.rows.now l.rows l.invariant r (omega arith)
 
-pub returns-in-default : goal.returns-in-default
-returns-in-default c = λ r.
+pub returns-in_default : goal.returns-in_default
+returns-in_default c = λ r.
     let l = c.loop-filled in
-    filled_rest c.args.text.now c.args.from l.p c.args.first l.count l.filled c.args.rows.now l.rows l.invariant r c.in-default.ensures
+    filled_rest c.args.text.now c.args.from l.p c.args.first l.count l.filled c.args.rows.now l.rows l.invariant r c.in_default.ensures

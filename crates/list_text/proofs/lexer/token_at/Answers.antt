@@ -30,7 +30,7 @@ returns-in-44 c = record { cut = (c.requires.0, refl, c.in-44.is, one_byte _ c.a
 pub returns-in-59 : goal.returns-in-59
 returns-in-59 c = record { cut = (c.requires.0, refl, c.in-59.is, one_byte _ c.args.start c.requires.0); after = omega arith; within = omega (arith, c.requires.0) }
 
-pub returns-in-default : goal.returns-in-default
-returns-in-default c =
+pub returns-in_default : goal.returns-in_default
+returns-in_default c =
     let odd : Odd (get_or c.args.text.now c.args.start 0) = search rules in
     record { cut = (c.requires.0, refl, odd, one_byte _ c.args.start c.requires.0); after = omega arith; within = omega (arith, c.requires.0) }

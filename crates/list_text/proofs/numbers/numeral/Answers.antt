@@ -5,8 +5,8 @@ use Rattle.list_text.proofs.Moves.{behind}
 use Rattle.list_text.proofs.Numerals.{not_number, number_piece, rest_is, all_digits, plain, plain_fault, dash_fault, negative, negative_fault}
 use Rattle.list_text.proofs.numbers.numeral.Goals as goal
 
-pub returns-in-default : goal.returns-in-default
-returns-in-default c = record { behind = tt; small = tt; reads = λ k. not_number c.next-x.ensures _ k c.in-default.not-Number }
+pub returns-in_default : goal.returns-in_default
+returns-in_default c = record { behind = tt; small = tt; reads = λ k. not_number c.next-x.ensures _ k c.in_default.not-Number }
 
 pub returns-then-not-sign : goal.returns-then-not-sign
 returns-then-not-sign c = record {
@@ -24,15 +24,15 @@ value-requires c =
     let m : length (take (length w - 1) (drop 1 w)) ≡ length g.others = ap length e in
     (subst (AllOf digit) (sym e) g.pass, omega (arith, g.long, g.within))
 
-pub returns-in-err-n : goal.returns-in-err-n
-returns-in-err-n c =
+pub returns-in_err-n : goal.returns-in_err-n
+returns-in_err-n c =
     let p = err_from_is_err_and c.from-residual.result c.from-residual.ensures.1 in
     let g = number_piece c.next-x.ensures c.in-Number.w c.in-Number.is in
     rw (p.1, p.2) (record {
       behind = tt;
       small = tt;
       reads = λ k. rw c.if-not-sign.false (negative_fault c.next-x.ensures c.in-Number.w c.in-Number.is k _ _ c.if-w-eq45.true
-          (rest_is g.first g.others c.in-Number.w.now g.is) c.in-err-n.ensures);
+          (rest_is g.first g.others c.in-Number.w.now g.is) c.in_err-n.ensures);
     })
 
 pub returns-then-w-eq45 : goal.returns-then-w-eq45
@@ -40,9 +40,9 @@ returns-then-w-eq45 c =
     let g = number_piece c.next-x.ensures c.in-Number.w c.in-Number.is in
     record {
       behind = behind c.next-x.ensures;
-      small = c.in-ok-n.ensures.1;
+      small = c.in_ok-n.ensures.1;
       reads = λ k. rw c.if-not-sign.false (negative c.next-x.ensures c.in-Number.w c.in-Number.is k _ _ c.if-w-eq45.true
-          (rest_is g.first g.others c.in-Number.w.now g.is) c.in-ok-n.ensures.0);
+          (rest_is g.first g.others c.in-Number.w.now g.is) c.in_ok-n.ensures.0);
     }
 
 pub value-requires-2 : goal.value-requires-2
@@ -50,19 +50,19 @@ value-requires-2 c =
     let g = number_piece c.next-x.ensures c.in-Number.w c.in-Number.is in
     (all_digits c.next-x.ensures c.in-Number.w c.in-Number.is c.if-w-eq45.false, omega (arith, g.long, g.within))
 
-pub returns-in-err-m : goal.returns-in-err-m
-returns-in-err-m c =
-    let p = err_from_is_err_and c.from-residual-in-err-m.result c.from-residual-in-err-m.ensures.1 in
+pub returns-in_err-m : goal.returns-in_err-m
+returns-in_err-m c =
+    let p = err_from_is_err_and c.from-residual-in_err-m.result c.from-residual-in_err-m.ensures.1 in
     rw (p.1, p.2) (record {
       behind = tt;
       small = tt;
       reads = λ k. plain_fault c.next-x.ensures c.in-Number.w c.in-Number.is _ k _
-          (all_digits c.next-x.ensures c.in-Number.w c.in-Number.is c.if-w-eq45.false) c.in-err-m.ensures;
+          (all_digits c.next-x.ensures c.in-Number.w c.in-Number.is c.if-w-eq45.false) c.in_err-m.ensures;
     })
 
 pub returns : goal.returns
 returns c = record {
   behind = behind c.next-x.ensures;
-  small = c.in-ok-m.ensures.1;
-  reads = λ k. plain c.next-x.ensures c.in-Number.w c.in-Number.is _ k _ c.in-ok-m.ensures.0;
+  small = c.in_ok-m.ensures.1;
+  reads = λ k. plain c.next-x.ensures c.in-Number.w c.in-Number.is _ k _ c.in_ok-m.ensures.0;
 }

@@ -4,14 +4,14 @@ use Rattle.list_text.specs.Grammar.{written}
 use Rattle.list_text.proofs.Numerals.{written_more, digit_at, digits_more, ten_to}
 use Rattle.list_text.proofs.numbers.value.Goals as goal
 
-pub overflow-mul-n : goal.overflow-mul-n
-overflow-mul-n c = omega (arith, ten_to c.loop-d.d-index (omega arith))
+pub overflow_mul-n : goal.overflow_mul-n
+overflow_mul-n c = omega (arith, ten_to c.loop-d.d-index (omega arith))
 
-pub overflow-sub-n : goal.overflow-sub-n
-overflow-sub-n c = (digit_at c.args.digits.now c.loop-d.d-index c.requires.0 (omega arith)).0
+pub overflow_sub-n : goal.overflow_sub-n
+overflow_sub-n c = (digit_at c.args.digits.now c.loop-d.d-index c.requires.0 (omega arith)).0
 
-pub overflow-add-n : goal.overflow-add-n
-overflow-add-n c =
+pub overflow_add-n : goal.overflow_add-n
+overflow_add-n c =
     omega (arith, ten_to c.loop-d.d-index (omega arith), (digit_at c.args.digits.now c.loop-d.d-index c.requires.0 (omega arith)).1)
 
 pub loop-d-preserved : goal.loop-d-preserved

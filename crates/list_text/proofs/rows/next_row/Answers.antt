@@ -8,9 +8,9 @@ use Rattle.list_text.proofs.rows.next_row.Goals as goal
 pub returns-then-not-is-mark : goal.returns-then-not-is-mark
 returns-then-not-is-mark c = no_row c.next-x.ensures (λ e. both_ways _ c.if-not-is-mark.true (c.is-mark.ensures.1 e))
 
-pub returns-in-default : goal.returns-in-default
-returns-in-default c =
-    inr (c.in-default.field-0, λ n m cs. stop (rows_semicolon c.next-x.ensures n m cs (c.is-mark.ensures.0 c.if-not-is-mark.false)) (c.in-default.ensures.reads _))
+pub returns-in_default : goal.returns-in_default
+returns-in_default c =
+    inr (c.in_default.field-0, λ n m cs. stop (rows_semicolon c.next-x.ensures n m cs (c.is-mark.ensures.0 c.if-not-is-mark.false)) (c.in_default.ensures.reads _))
 
 pub returns-in-Err : goal.returns-in-Err
 returns-in-Err c =

@@ -36,28 +36,28 @@ returns-then-not-is-mark c = record {
       (λ e. both_ways _ c.if-is-mark.false (c.is-mark.ensures.1 e)) (λ e. both_ways _ c.if-not-is-mark.true (c.is-mark-in-loop-seen.ensures.1 e)));
 }
 
-pub returns-in-err-q : goal.returns-in-err-q
-returns-in-err-q c =
+pub returns-in_err-q : goal.returns-in_err-q
+returns-in_err-q c =
     let p = err_from_is_err_and c.from-residual.result c.from-residual.ensures.1 in
     rw (p.1, p.2) (record {
       behind = tt;
-      reads = λ n m. stop (c.loop-seen.invariant.leads n m) (stop (rows_semicolon c.next-x.ensures n m _ (c.is-mark-in-loop-seen.ensures.0 c.if-not-is-mark.false)) (c.in-err-q.ensures.reads _));
+      reads = λ n m. stop (c.loop-seen.invariant.leads n m) (stop (rows_semicolon c.next-x.ensures n m _ (c.is-mark-in-loop-seen.ensures.0 c.if-not-is-mark.false)) (c.in_err-q.ensures.reads _));
     })
 
-pub returns-in-err-read : goal.returns-in-err-read
-returns-in-err-read c =
-    let p = err_from_is_err_and c.from-residual-in-err-read.result c.from-residual-in-err-read.ensures.1 in
+pub returns-in_err-read : goal.returns-in_err-read
+returns-in_err-read c =
+    let p = err_from_is_err_and c.from-residual-in_err-read.result c.from-residual-in_err-read.ensures.1 in
     rw (p.1, p.2) (record {
       behind = tt;
       reads = λ n m. stop (c.loop-seen.invariant.leads n m) (stop (rows_semicolon c.next-x.ensures n m _ (c.is-mark-in-loop-seen.ensures.0 c.if-not-is-mark.false))
-          (stop (c.in-ok-q.ensures.reads _) (c.in-err-read.ensures.reads (λ x. rows_more n m (c.loop-seen.invariant.list ++ (x ∷ []))))));
+          (stop (c.in_ok-q.ensures.reads _) (c.in_err-read.ensures.reads (λ x. rows_more n m (c.loop-seen.invariant.list ++ (x ∷ []))))));
     })
 
 pub loop-seen-preserved : goal.loop-seen-preserved
 loop-seen-preserved c =
     let is = c.is-mark-in-loop-seen.ensures.0 c.if-not-is-mark.false in
-    let r = c.in-ok-read.ensures.reads in
-    let b = behind_behind c.in-ok-q.ensures.behind c.in-ok-read.ensures.behind in
+    let r = c.in_ok-read.ensures.reads in
+    let b = behind_behind c.in_ok-q.ensures.behind c.in_ok-read.ensures.behind in
     record {
       behind = behind_behind c.loop-seen.invariant.behind (behind_behind (behind c.next-x.ensures) b);
       few = omega (arith, c.loop-seen.invariant.few, mark_onward c.next-x.ensures _ is, b.onward);
@@ -68,11 +68,11 @@ loop-seen-preserved c =
         | else-count-j w ↦ subst (Shows _ _) (sym w.seen-is) (row_other _ r.0 _ _ _ _ c.loop-seen.invariant.many w.if-count-j.false c.loop-seen.invariant.shows)
       ];
       leads = λ n m. then (c.loop-seen.invariant.leads n m) (then (rows_semicolon c.next-x.ensures n m _ is)
-          (then (c.in-ok-q.ensures.reads _) (r.2 (λ x. rows_more n m (c.loop-seen.invariant.list ++ (x ∷ []))))));
+          (then (c.in_ok-q.ensures.reads _) (r.2 (λ x. rows_more n m (c.loop-seen.invariant.list ++ (x ∷ []))))));
     }
 
 pub loop-seen-smaller : goal.loop-seen-smaller
 loop-seen-smaller c =
     let is = c.is-mark-in-loop-seen.ensures.0 c.if-not-is-mark.false in
-    let b = behind_behind c.in-ok-q.ensures.behind c.in-ok-read.ensures.behind in
+    let b = behind_behind c.in_ok-q.ensures.behind c.in_ok-read.ensures.behind in
     omega (arith, mark_onward c.next-x.ensures _ is, b.onward, b.within)

@@ -33,11 +33,11 @@ one-more-row-requires c = omega (arith, c.loop-w.invariant.few, c.loop-w.invaria
 
 pub returns-then-is-mark-2 : goal.returns-then-is-mark-2
 returns-then-is-mark-2 c = record {
-  behind = behind_behind c.loop-w.invariant.behind (behind_behind c.in-ok-w.ensures.behind (behind c.next-y.ensures));
+  behind = behind_behind c.loop-w.invariant.behind (behind_behind c.in_ok-w.ensures.behind (behind c.next-y.ensures));
   reads = (
-    c.loop-w.invariant.windows ++ (c.in-ok-w.w ∷ []),
+    c.loop-w.invariant.windows ++ (c.in_ok-w.w ∷ []),
     shows_more _ _ _ _ _ _ _ c.loop-w.invariant.shows c.one_more_row.ensures,
-    λ k. then (c.loop-w.invariant.leads k) (then (c.in-ok-w.ensures.reads c.loop-w.invariant.windows k)
+    λ k. then (c.loop-w.invariant.leads k) (then (c.in_ok-w.ensures.reads c.loop-w.invariant.windows k)
         (more_close c.next-y.ensures _ k (c.is-mark-in-loop-w.ensures.0 c.if-is-mark-2.true))),
   );
 }
@@ -45,41 +45,41 @@ returns-then-is-mark-2 c = record {
 pub returns-then-not-is-mark-2 : goal.returns-then-not-is-mark-2
 returns-then-not-is-mark-2 c = record {
   behind = tt;
-  reads = λ k. stop (c.loop-w.invariant.leads k) (stop (c.in-ok-w.ensures.reads c.loop-w.invariant.windows k)
+  reads = λ k. stop (c.loop-w.invariant.leads k) (stop (c.in_ok-w.ensures.reads c.loop-w.invariant.windows k)
       (more_fault c.next-y.ensures _ k (λ e. both_ways _ c.if-is-mark-2.false (c.is-mark-in-loop-w.ensures.1 e))
       (λ e. both_ways _ c.if-not-is-mark-2.true (c.is-mark-in-loop-w-2.ensures.1 e))));
 }
 
-pub returns-in-err-w : goal.returns-in-err-w
-returns-in-err-w c =
+pub returns-in_err-w : goal.returns-in_err-w
+returns-in_err-w c =
     let p = err_from_is_err_and c.from-residual.result c.from-residual.ensures.1 in
     rw (p.1, p.2) (record {
       behind = tt;
-      reads = λ k. stop (c.loop-w.invariant.leads k) (c.in-err-w.ensures.reads c.loop-w.invariant.windows k);
+      reads = λ k. stop (c.loop-w.invariant.leads k) (c.in_err-w.ensures.reads c.loop-w.invariant.windows k);
     })
 
-pub returns-in-err-p : goal.returns-in-err-p
-returns-in-err-p c =
-    let p = err_from_is_err_and c.from-residual-in-err-p.result c.from-residual-in-err-p.ensures.1 in
+pub returns-in_err-p : goal.returns-in_err-p
+returns-in_err-p c =
+    let p = err_from_is_err_and c.from-residual-in_err-p.result c.from-residual-in_err-p.ensures.1 in
     rw (p.1, p.2) (record {
       behind = tt;
-      reads = λ k. stop (c.loop-w.invariant.leads k) (stop (c.in-ok-w.ensures.reads c.loop-w.invariant.windows k)
-          (stop (more_semicolon c.next-y.ensures _ k (c.is-mark-in-loop-w-2.ensures.0 c.if-not-is-mark-2.false)) (c.in-err-p.ensures.reads _)));
+      reads = λ k. stop (c.loop-w.invariant.leads k) (stop (c.in_ok-w.ensures.reads c.loop-w.invariant.windows k)
+          (stop (more_semicolon c.next-y.ensures _ k (c.is-mark-in-loop-w-2.ensures.0 c.if-not-is-mark-2.false)) (c.in_err-p.ensures.reads _)));
     })
 
 pub loop-w-preserved : goal.loop-w-preserved
 loop-w-preserved c =
     let is = c.is-mark-in-loop-w-2.ensures.0 c.if-not-is-mark-2.false in
     record {
-      behind = behind_behind c.loop-w.invariant.behind (behind_behind c.in-ok-w.ensures.behind (behind_behind (behind c.next-y.ensures) c.in-ok-p.ensures.behind));
-      few = omega (arith, c.loop-w.invariant.few, c.in-ok-w.ensures.behind.onward, mark_onward c.next-y.ensures _ is, c.in-ok-p.ensures.behind.onward, c.one_more_row.ensures.count);
-      windows = c.loop-w.invariant.windows ++ (c.in-ok-w.w ∷ []);
+      behind = behind_behind c.loop-w.invariant.behind (behind_behind c.in_ok-w.ensures.behind (behind_behind (behind c.next-y.ensures) c.in_ok-p.ensures.behind));
+      few = omega (arith, c.loop-w.invariant.few, c.in_ok-w.ensures.behind.onward, mark_onward c.next-y.ensures _ is, c.in_ok-p.ensures.behind.onward, c.one_more_row.ensures.count);
+      windows = c.loop-w.invariant.windows ++ (c.in_ok-w.w ∷ []);
       shows = shows_more _ _ _ _ _ _ _ c.loop-w.invariant.shows c.one_more_row.ensures;
-      leads = λ k. then (c.loop-w.invariant.leads k) (then (c.in-ok-w.ensures.reads c.loop-w.invariant.windows k)
-          (then (more_semicolon c.next-y.ensures _ k is) (c.in-ok-p.ensures.reads _)));
+      leads = λ k. then (c.loop-w.invariant.leads k) (then (c.in_ok-w.ensures.reads c.loop-w.invariant.windows k)
+          (then (more_semicolon c.next-y.ensures _ k is) (c.in_ok-p.ensures.reads _)));
     }
 
 pub loop-w-smaller : goal.loop-w-smaller
 loop-w-smaller c =
     let is = c.is-mark-in-loop-w-2.ensures.0 c.if-not-is-mark-2.false in
-    omega (arith, c.in-ok-w.ensures.behind.onward, mark_onward c.next-y.ensures _ is, c.in-ok-p.ensures.behind.onward, c.in-ok-p.ensures.behind.within)
+    omega (arith, c.in_ok-w.ensures.behind.onward, mark_onward c.next-y.ensures _ is, c.in_ok-p.ensures.behind.onward, c.in_ok-p.ensures.behind.within)

@@ -7,8 +7,8 @@ use Rattle.list_text.proofs.Moves.{behind, then, stop, behind_behind}
 use Rattle.list_text.proofs.Words.{not_word, is_Inf, is_E, is_other}
 use Rattle.list_text.proofs.windows.end.Goals as goal
 
-pub returns-in-default : goal.returns-in-default
-returns-in-default c = record { behind = tt; reads = λ m k. not_word c.next-x.ensures _ c.in-default.not-Word }
+pub returns-in_default : goal.returns-in_default
+returns-in_default c = record { behind = tt; reads = λ m k. not_word c.next-x.ensures _ c.in_default.not-Word }
 
 pub returns-then-is-same : goal.returns-then-is-same
 returns-then-is-same c = record {
@@ -26,38 +26,38 @@ returns-then-not-is-same c = record {
   };
 }
 
-pub returns-in-err-p : goal.returns-in-err-p
-returns-in-err-p c =
+pub returns-in_err-p : goal.returns-in_err-p
+returns-in_err-p c =
     let p = err_from_is_err_and c.from-residual.result c.from-residual.ensures.1 in
     rw (p.1, p.2) (record {
       behind = tt;
-      reads = λ m k. stop (is_E c.next-x.ensures c.in-Word.w c.in-Word.is _ (c.is-same-2.ensures.0 c.if-not-is-same.false)) (c.in-err-p.ensures.reads _);
+      reads = λ m k. stop (is_E c.next-x.ensures c.in-Word.w c.in-Word.is _ (c.is-same-2.ensures.0 c.if-not-is-same.false)) (c.in_err-p.ensures.reads _);
     })
 
-pub returns-in-err-negative : goal.returns-in-err-negative
-returns-in-err-negative c =
-    let p = err_from_is_err_and c.from-residual-in-err-negative.result c.from-residual-in-err-negative.ensures.1 in
+pub returns-in_err-negative : goal.returns-in_err-negative
+returns-in_err-negative c =
+    let p = err_from_is_err_and c.from-residual-in_err-negative.result c.from-residual-in_err-negative.ensures.1 in
     rw (p.1, p.2) (record {
       behind = tt;
       reads = λ m k. stop (is_E c.next-x.ensures c.in-Word.w c.in-Word.is _ (c.is-same-2.ensures.0 c.if-not-is-same.false))
-          (stop (c.in-ok-p.ensures.reads _) (c.in-err-negative.ensures.reads _));
+          (stop (c.in_ok-p.ensures.reads _) (c.in_err-negative.ensures.reads _));
     })
 
-pub returns-in-err-after : goal.returns-in-err-after
-returns-in-err-after c =
-    let p = err_from_is_err_and c.from-residual-in-err-after.result c.from-residual-in-err-after.ensures.1 in
+pub returns-in_err-after : goal.returns-in_err-after
+returns-in_err-after c =
+    let p = err_from_is_err_and c.from-residual-in_err-after.result c.from-residual-in_err-after.ensures.1 in
     rw (p.1, p.2) (record {
       behind = tt;
       reads = λ m k. stop (is_E c.next-x.ensures c.in-Word.w c.in-Word.is _ (c.is-same-2.ensures.0 c.if-not-is-same.false))
-          (stop (c.in-ok-p.ensures.reads _) (stop (c.in-ok-negative.ensures.reads _) (c.in-err-after.ensures.reads _)));
+          (stop (c.in_ok-p.ensures.reads _) (stop (c.in_ok-negative.ensures.reads _) (c.in_err-after.ensures.reads _)));
     })
 
 pub returns : goal.returns
 returns c =
     let f : SFits w64 c.signed.result = search rules in
-    let z : to_z w64 (of_z w64 c.signed.result) ≡ with_sign c.in-ok-negative.negative c.in-ok-negative.n = to_z-of_z f ∙ c.signed.ensures in
+    let z : to_z w64 (of_z w64 c.signed.result) ≡ with_sign c.in_ok-negative.negative c.in_ok-negative.n = to_z-of_z f ∙ c.signed.ensures in
     record {
-      behind = behind_behind (behind c.next-x.ensures) (behind_behind c.in-ok-p.ensures.behind (behind_behind c.in-ok-negative.ensures.behind c.in-ok-after.ensures.behind));
+      behind = behind_behind (behind c.next-x.ensures) (behind_behind c.in_ok-p.ensures.behind (behind_behind c.in_ok-negative.ensures.behind c.in_ok-after.ensures.behind));
       reads = λ m k. rw z (then (is_E c.next-x.ensures c.in-Word.w c.in-Word.is _ (c.is-same-2.ensures.0 c.if-not-is-same.false))
-          (then (c.in-ok-p.ensures.reads _) (then (c.in-ok-negative.ensures.reads _) (c.in-ok-after.ensures.reads _))));
+          (then (c.in_ok-p.ensures.reads _) (then (c.in_ok-negative.ensures.reads _) (c.in_ok-after.ensures.reads _))));
     }

@@ -15,8 +15,8 @@ returns-then-place-conditions g c = record {
   rest = refl;
 }
 
-pub overflow-cast-chosen : goal.overflow-cast-chosen
-overflow-cast-chosen g c =
+pub overflow_cast-chosen : goal.overflow_cast-chosen
+overflow_cast-chosen g c =
     let N = g.T.Source.means c.args.source.now in
     let here : get_or c.args.places c.args.l 0 < length N.conditions = omega arith in
     let there = window_there N _ _ _ c.requires.upto c.requires.turn here in

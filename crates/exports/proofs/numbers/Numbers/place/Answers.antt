@@ -3,8 +3,8 @@ use Rattle.exports.specs.Meaning.{condition_numbers}
 use Rattle.exports.proofs.Counting.{counted, part_room, begins, absent}
 use Rattle.exports.proofs.numbers.Numbers.place.Goals as goal
 
-pub overflow-mul-result : goal.overflow-mul-result
-overflow-mul-result g c =
+pub overflow_mul-result : goal.overflow_mul-result
+overflow_mul-result g c =
     let P = g.S.Spelled.spelling in
     let w = condition_numbers P in
     let l = c.args.self.now.numbers.now in

@@ -17,5 +17,5 @@ returns-in-2 g c = row_at c.args.self.now c.args.w 2 c.in-2.is c.if-w-self.false
 pub returns-in-3 : goal.returns-in-3
 returns-in-3 g c = row_at c.args.self.now c.args.w 3 c.in-3.is c.if-w-self.false
 
-pub returns-in-default : goal.returns-in-default
-returns-in-default g c = past_room c.args.self.now c.args.w (omega arith) c.if-w-self.false
+pub returns-in_default : goal.returns-in_default
+returns-in_default g c = past_room c.args.self.now c.args.w (omega arith) c.if-w-self.false
