@@ -8,7 +8,7 @@ use crate::windows::{windows_rise, windows_small};
 use networks::{Fault, MOST_WINDOWS, Source};
 
 fn check_condition<T: Source>(source: &T, points: usize, k: usize) -> Result<(), Fault>
-    ensures { refusal_in result ≡ condition_refusal Span-as-Span.kind points k (condition_at (means source.now) k) }
+    ensures { refusal_in result ≡ condition_refusal T.Span.Span.kind points k (condition_at (T.Source.means source.now) k) }
 {
     let from = source.from(k);
     let to = source.to(k);
@@ -29,7 +29,7 @@ fn check_condition<T: Source>(source: &T, points: usize, k: usize) -> Result<(),
 }
 
 pub(crate) fn check_conditions<T: Source>(source: &T) -> Result<(), Fault>
-    ensures { refusal_in result ≡ conditions_refusal Span-as-Span.kind (means source.now).points 0 (means source.now).conditions }
+    ensures { refusal_in result ≡ conditions_refusal T.Span.Span.kind (T.Source.means source.now).points 0 (T.Source.means source.now).conditions }
 {
     let points = source.points();
     for k in 0..source.conditions() {
@@ -39,7 +39,7 @@ pub(crate) fn check_conditions<T: Source>(source: &T) -> Result<(), Fault>
 }
 
 pub(crate) fn count_choices<T: Source>(source: &T) -> usize
-    ensures { result ≡ choices (means source.now).conditions }
+    ensures { result ≡ choices (T.Source.means source.now).conditions }
 {
     let mut count = 0;
     for k in 0..source.conditions() {

@@ -40,7 +40,7 @@ fn check_choices(count: usize) -> Result<(), Fault>
 
 // The first refusal among 1 to 7.
 fn first_refusal<T: Source>(source: &T, room: usize) -> Result<(), Fault>
-    ensures { refusal_in result ≡ network_refusal Span-as-Span.kind (means source.now) room }
+    ensures { refusal_in result ≡ network_refusal T.Span.Span.kind (T.Source.means source.now) room }
 {
     check_points(source.points())?;
     check_conditions(source)?;
@@ -50,7 +50,7 @@ fn first_refusal<T: Source>(source: &T, room: usize) -> Result<(), Fault>
 
 // The same, and that what passes is legal.
 pub(crate) fn check_counted<T: Source>(source: &T, room: usize) -> Result<(), Fault>
-    ensures { Checked Span-as-Span.kind (means source.now) room result }
+    ensures { Checked T.Span.Span.kind (T.Source.means source.now) room result }
 {
     first_refusal(source, room)
 }

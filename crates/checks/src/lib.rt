@@ -27,15 +27,15 @@ pub fn check_points(points: usize) -> Result<(), Fault>
 
 // The checks 1 to 7 of a source by itself.
 pub fn check_network<T: Source>(source: &T) -> Result<(), Fault>
-    ensures { Checked Span-as-Span.kind (means source.now) most_conditions result }
+    ensures { Checked T.Span.Span.kind (T.Source.means source.now) most_conditions result }
 {
     check_counted(source, MOST_CONDITIONS)
 }
 
 // The checks 1 to 8, where there is room for so many conditions and a call was lent so much memory.
 pub fn check_within<T: Source>(source: &T, room: usize, lent: Lent) -> Result<(), Fault>
-    ensures legal { is_ok result ≡ true → Legal Span-as-Span.kind (means source.now) }
-    ensures refusal { refusal_in result ≡ checks_refusal Span-as-Span.kind (means source.now) room lent }
+    ensures legal { is_ok result ≡ true → Legal T.Span.Span.kind (T.Source.means source.now) }
+    ensures refusal { refusal_in result ≡ checks_refusal T.Span.Span.kind (T.Source.means source.now) room lent }
 {
     check_counted(source, room)?;
     check_memory(source.points(), lent)
@@ -43,8 +43,8 @@ pub fn check_within<T: Source>(source: &T, room: usize, lent: Lent) -> Result<()
 
 // The checks 1 to 8 of a source by itself.
 pub fn check<T: Source>(source: &T, lent: Lent) -> Result<(), Fault>
-    ensures legal { is_ok result ≡ true → Legal Span-as-Span.kind (means source.now) }
-    ensures refusal { refusal_in result ≡ checks_refusal Span-as-Span.kind (means source.now) most_conditions lent }
+    ensures legal { is_ok result ≡ true → Legal T.Span.Span.kind (T.Source.means source.now) }
+    ensures refusal { refusal_in result ≡ checks_refusal T.Span.Span.kind (T.Source.means source.now) most_conditions lent }
 {
     check_within(source, MOST_CONDITIONS, lent)
 }

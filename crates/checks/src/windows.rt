@@ -7,7 +7,7 @@ use networks::{LARGEST_END, Source};
 use spans::Span;
 
 fn is_small<S: Span>(end: Option<S>) -> bool
-    ensures { result ≡ small kind end }
+    ensures { result ≡ small S.Span.kind end }
 {
     match end {
         Some(a) => a.size() <= LARGEST_END,
@@ -17,14 +17,14 @@ fn is_small<S: Span>(end: Option<S>) -> bool
 
 // Whether both ends of window w are small.
 fn window_small<T: Source>(source: &T, k: usize, w: usize) -> bool
-    ensures { result ≡ (small Span-as-Span.kind (window_of (condition_at (means source.now) k) w).low
-        && small Span-as-Span.kind (window_of (condition_at (means source.now) k) w).high) }
+    ensures { result ≡ (small T.Span.Span.kind (window_of (condition_at (T.Source.means source.now) k) w).low
+        && small T.Span.Span.kind (window_of (condition_at (T.Source.means source.now) k) w).high) }
 {
     is_small(source.low(k, w)) && is_small(source.high(k, w))
 }
 
 pub(crate) fn windows_small<T: Source>(source: &T, k: usize) -> bool
-    ensures { result ≡ all_small Span-as-Span.kind (condition_at (means source.now) k).windows }
+    ensures { result ≡ all_small T.Span.Span.kind (condition_at (T.Source.means source.now) k).windows }
 {
     for w in 0..source.windows(k) {
         if !window_small(source, k, w) {
@@ -35,7 +35,7 @@ pub(crate) fn windows_small<T: Source>(source: &T, k: usize) -> bool
 }
 
 fn is_in_order<S: Span>(low: Option<S>, high: Option<S>) -> bool
-    ensures { result ≡ in_order kind low high }
+    ensures { result ≡ in_order S.Span.kind low high }
 {
     match (low, high) {
         (Some(a), Some(b)) => !b.is_less(a),
@@ -44,7 +44,7 @@ fn is_in_order<S: Span>(low: Option<S>, high: Option<S>) -> bool
 }
 
 fn has_gap<S: Span>(high: Option<S>, low: Option<S>) -> bool
-    ensures { result ≡ leaves_gap kind high low }
+    ensures { result ≡ leaves_gap S.Span.kind high low }
 {
     match (high, low) {
         (Some(b), Some(a)) => b.is_less(a),
@@ -55,8 +55,8 @@ fn has_gap<S: Span>(high: Option<S>, low: Option<S>) -> bool
 // Whether window w's ends are in order and the window after it, if there is one, begins above it.
 fn window_rises<T: Source>(source: &T, k: usize, w: usize, count: usize) -> bool
     requires { (w < count) × (count ≡ length (condition_at (T.Source.means source.now) k).windows) }
-    ensures { result ≡ (in_order Span-as-Span.kind (window_of (condition_at (means source.now) k) w).low (window_of (condition_at (means source.now) k) w).high
-        && before Span-as-Span.kind (window_of (condition_at (means source.now) k) w) (drop (w + 1) (condition_at (means source.now) k).windows)) }
+    ensures { result ≡ (in_order T.Span.Span.kind (window_of (condition_at (T.Source.means source.now) k) w).low (window_of (condition_at (T.Source.means source.now) k) w).high
+        && before T.Span.Span.kind (window_of (condition_at (T.Source.means source.now) k) w) (drop (w + 1) (condition_at (T.Source.means source.now) k).windows)) }
 {
     let high = source.high(k, w);
     if !is_in_order(source.low(k, w), high) {
@@ -70,7 +70,7 @@ fn window_rises<T: Source>(source: &T, k: usize, w: usize, count: usize) -> bool
 }
 
 pub(crate) fn windows_rise<T: Source>(source: &T, k: usize) -> bool
-    ensures { result ≡ rises Span-as-Span.kind (condition_at (means source.now) k).windows }
+    ensures { result ≡ rises T.Span.Span.kind (condition_at (T.Source.means source.now) k).windows }
 {
     let count = source.windows(k);
     for w in 0..count {

@@ -26,11 +26,11 @@ fn close_points<T: Source>(
     middles: &mut [u8],
     codes: &mut [u16],
 ) -> Option<ClosingEdge>
-    requires points { n ≡ (means source.now).points }
-    requires legal { Legal T.Span.Span.kind (means source.now) }
+    requires points { n ≡ (T.Source.means source.now).points }
+    requires legal { Legal T.Span.Span.kind (T.Source.means source.now) }
     requires room { (n * n ≤ length matrix.old) × ((n * n ≤ length middles.old) × (n * n ≤ length codes.old)) }
-    ensures ends { MatchOption result (Closes T.Span.Span.kind (means source.now) matrix.new)
-        (λ e. CannotClose T.Span.Span.kind (means source.now) (numbers n middles.new) (numbers n codes.new) e.first e.last) }
+    ensures ends { MatchOption result (Closes T.Span.Span.kind (T.Source.means source.now) matrix.new)
+        (λ e. CannotClose T.Span.Span.kind (T.Source.means source.now) (numbers n middles.new) (numbers n codes.new) e.first e.last) }
     ensures rest { Rest n matrix.old matrix.new }
 {
     fill_edges(source, n, matrix, codes, middles);
@@ -51,12 +51,12 @@ pub fn close<T: Source>(
     middles: &mut [u8],
     codes: &mut [u16],
 ) -> Option<ClosingEdge>
-    requires legal { Legal T.Span.Span.kind (means source.now) }
-    requires room { ((means source.now).points * (means source.now).points ≤ length matrix.old) × (((means source.now).points * (means source.now).points ≤ length middles.old) × ((means source.now).points * (means source.now).points ≤ length codes.old)) }
-    ensures ends { MatchOption result (Closes T.Span.Span.kind (means source.now) matrix.new)
-        (λ e. CannotClose T.Span.Span.kind (means source.now) (numbers (means source.now).points middles.new)
-        (numbers (means source.now).points codes.new) e.first e.last) }
-    ensures rest { Rest (means source.now).points matrix.old matrix.new }
+    requires legal { Legal T.Span.Span.kind (T.Source.means source.now) }
+    requires room { ((T.Source.means source.now).points * (T.Source.means source.now).points ≤ length matrix.old) × (((T.Source.means source.now).points * (T.Source.means source.now).points ≤ length middles.old) × ((T.Source.means source.now).points * (T.Source.means source.now).points ≤ length codes.old)) }
+    ensures ends { MatchOption result (Closes T.Span.Span.kind (T.Source.means source.now) matrix.new)
+        (λ e. CannotClose T.Span.Span.kind (T.Source.means source.now) (numbers (T.Source.means source.now).points middles.new)
+        (numbers (T.Source.means source.now).points codes.new) e.first e.last) }
+    ensures rest { Rest (T.Source.means source.now).points matrix.old matrix.new }
 {
     close_points(source, source.points(), matrix, middles, codes)
 }

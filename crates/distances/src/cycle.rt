@@ -12,7 +12,7 @@ use spans::Span;
 
 // Whether both are there and add up below zero.
 fn adds_up_below_zero<S: Span>(x: Option<S>, y: Option<S>) -> bool
-    ensures { result ≡ below_zero kind (joined kind x y) }
+    ensures { result ≡ below_zero S.Span.kind (joined S.Span.kind x y) }
 {
     if let (Some(a), Some(b)) = (x, y) {
         if let Some(sum) = a.sum(b) {
@@ -32,7 +32,7 @@ fn closes_below_zero<S: Span>(
 ) -> bool
     requires points { (n ≤ most_points) × ((k < n) × (i < n)) }
     requires room { (n * n ≤ length matrix.now) × (n * n ≤ length middles.now) }
-    ensures { result ≡ closes kind (table n matrix.now) (numbers n middles.now) k i }
+    ensures { result ≡ closes S.Span.kind (table n matrix.now) (numbers n middles.now) k i }
 {
     middle(middles, n, i, k) == 0
         && adds_up_below_zero(entry(matrix, n, i, k), entry(matrix, n, k, i))
@@ -48,8 +48,8 @@ pub(crate) fn find_closing<S: Span>(
     requires points { (n ≤ most_points) × (k < n) }
     requires room { (n * n ≤ length matrix.now) × (n * n ≤ length middles.now) }
     ensures { MatchOption result
-        ((i : ℕ) → i < k → closes kind (table n matrix.now) (numbers n middles.now) k i ≡ false)
-        (λ i. (i < k) × (closes kind (table n matrix.now) (numbers n middles.now) k i ≡ true)) }
+        ((i : ℕ) → i < k → closes S.Span.kind (table n matrix.now) (numbers n middles.now) k i ≡ false)
+        (λ i. (i < k) × (closes S.Span.kind (table n matrix.now) (numbers n middles.now) k i ≡ true)) }
 {
     for i in 0..k {
         if closes_below_zero(matrix, middles, n, k, i) {

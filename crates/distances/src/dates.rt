@@ -20,14 +20,14 @@ use spans::Span;
 // The date of q.
 fn date_at<S: Span>(dates: &[S], q: usize) -> S
     requires { q < length dates.now }
-    ensures { result ≡ date kind dates.now q }
+    ensures { result ≡ date S.Span.kind dates.now q }
 {
     dates[q]
 }
 
 // The later of two dates, either of which may be missing; the first where they are alike.
 fn later<S: Span>(a: Option<S>, b: Option<S>) -> Option<S>
-    ensures { result ≡ further kind.less a b }
+    ensures { result ≡ further S.Span.kind.less a b }
 {
     match (a, b) {
         (None, _) => b,
@@ -38,7 +38,7 @@ fn later<S: Span>(a: Option<S>, b: Option<S>) -> Option<S>
 
 // The earlier of two dates, either of which may be missing; the first where they are alike.
 fn earlier<S: Span>(a: Option<S>, b: Option<S>) -> Option<S>
-    ensures { result ≡ further (λ x y. kind.less y x) a b }
+    ensures { result ≡ further (λ x y. S.Span.kind.less y x) a b }
 {
     match (a, b) {
         (None, _) => b,
@@ -49,7 +49,7 @@ fn earlier<S: Span>(a: Option<S>, b: Option<S>) -> Option<S>
 
 // A date minus an entry, where the entry is there.
 fn earliest_from<S: Span>(date: S, entry: Option<S>) -> Option<S>
-    ensures { result ≡ earliest kind date entry }
+    ensures { result ≡ earliest S.Span.kind date entry }
 {
     match entry {
         None => None,
@@ -62,7 +62,7 @@ fn earliest_from<S: Span>(date: S, entry: Option<S>) -> Option<S>
 
 // A date plus an entry, where the entry is there.
 fn latest_from<S: Span>(date: S, entry: Option<S>) -> Option<S>
-    ensures { result ≡ latest kind date entry }
+    ensures { result ≡ latest S.Span.kind date entry }
 {
     match entry {
         None => None,
@@ -73,9 +73,9 @@ fn latest_from<S: Span>(date: S, entry: Option<S>) -> Option<S>
 // The greatest of the dates that p is not to be earlier than, from the points before it.
 fn greatest_earliest<S: Span>(matrix: &[Option<S>], n: usize, dates: &[S], p: usize) -> Option<S>
     requires points { (n ≤ most_points) × ((p < n) × ((n * n ≤ length matrix.now) × (n ≤ length dates.now))) }
-    requires small { Small kind (table n matrix.now) largest_total }
-    requires near { (q : ℕ) → q < p → kind.size (date kind dates.now q) ≤ largest_date }
-    ensures { GreatestSoFar kind (table n matrix.now) dates.now p p result }
+    requires small { Small S.Span.kind (table n matrix.now) largest_total }
+    requires near { (q : ℕ) → q < p → S.Span.kind.size (date S.Span.kind dates.now q) ≤ largest_date }
+    ensures { GreatestSoFar S.Span.kind (table n matrix.now) dates.now p p result }
 {
     let mut best = None;
     for q in 0..p {
@@ -90,9 +90,9 @@ fn greatest_earliest<S: Span>(matrix: &[Option<S>], n: usize, dates: &[S], p: us
 // The least of the dates that p is not to be later than, from the points before it.
 fn least_latest<S: Span>(matrix: &[Option<S>], n: usize, dates: &[S], p: usize) -> Option<S>
     requires points { (n ≤ most_points) × ((p < n) × ((n * n ≤ length matrix.now) × (n ≤ length dates.now))) }
-    requires small { Small kind (table n matrix.now) largest_total }
-    requires near { (q : ℕ) → q < p → kind.size (date kind dates.now q) ≤ largest_date }
-    ensures { LeastSoFar kind (table n matrix.now) dates.now p p result }
+    requires small { Small S.Span.kind (table n matrix.now) largest_total }
+    requires near { (q : ℕ) → q < p → S.Span.kind.size (date S.Span.kind dates.now q) ≤ largest_date }
+    ensures { LeastSoFar S.Span.kind (table n matrix.now) dates.now p p result }
 {
     let mut best = None;
     for q in 0..p {
@@ -104,9 +104,9 @@ fn least_latest<S: Span>(matrix: &[Option<S>], n: usize, dates: &[S], p: usize) 
 // The date of p: the greatest earliest one, else the least latest one, else zero.
 fn date_of<S: Span>(matrix: &[Option<S>], n: usize, dates: &[S], p: usize) -> S
     requires points { (n ≤ most_points) × ((p < n) × ((n * n ≤ length matrix.now) × (n ≤ length dates.now))) }
-    requires small { Small kind (table n matrix.now) largest_total }
-    requires near { (q : ℕ) → q < p → kind.size (date kind dates.now q) ≤ largest_date }
-    ensures { Dated kind (table n matrix.now) dates.now p result }
+    requires small { Small S.Span.kind (table n matrix.now) largest_total }
+    requires near { (q : ℕ) → q < p → S.Span.kind.size (date S.Span.kind dates.now q) ≤ largest_date }
+    ensures { Dated S.Span.kind (table n matrix.now) dates.now p result }
 {
     match greatest_earliest(matrix, n, dates, p) {
         Some(x) => x,
@@ -121,8 +121,8 @@ fn date_of<S: Span>(matrix: &[Option<S>], n: usize, dates: &[S], p: usize) -> S
 fn date_all<S: Span>(matrix: &[Option<S>], n: usize, dates: &mut [S])
     requires points { n ≤ most_points }
     requires room { (n * n ≤ length matrix.now) × (n ≤ length dates.old) }
-    requires done { Done kind n largest_total (table n matrix.now) }
-    ensures dated { ByDateRule kind (table n matrix.now) (take n dates.new) n }
+    requires done { Done S.Span.kind n largest_total (table n matrix.now) }
+    ensures dated { ByDateRule S.Span.kind (table n matrix.now) (take n dates.new) n }
     ensures rest { drop n dates.new ≡ drop n dates.old }
 {
     for p in 0..n {
@@ -132,12 +132,12 @@ fn date_all<S: Span>(matrix: &[Option<S>], n: usize, dates: &mut [S])
 
 // The dates of n points.
 fn date_numbered<T: Source>(source: &T, n: usize, matrix: &[Option<T::Span>], dates: &mut [T::Span])
-    requires points { n ≡ (means source.now).points }
-    requires legal { Legal T.Span.Span.kind (means source.now) }
+    requires points { n ≡ (T.Source.means source.now).points }
+    requires legal { Legal T.Span.Span.kind (T.Source.means source.now) }
     requires room { (n * n ≤ length matrix.now) × (n ≤ length dates.old) }
-    requires closed { Closes T.Span.Span.kind (means source.now) matrix.now }
+    requires closed { Closes T.Span.Span.kind (T.Source.means source.now) matrix.now }
     ensures dated { ByDateRule T.Span.Span.kind (entry_of n matrix.now) (take n dates.new) n }
-    ensures plan { Plan T.Span.Span.kind (hulls (means source.now)) (take n dates.new) }
+    ensures plan { Plan T.Span.Span.kind (hulls (T.Source.means source.now)) (take n dates.new) }
     ensures rest { drop n dates.new ≡ drop n dates.old }
 {
     date_all(matrix, n, dates);
@@ -145,13 +145,13 @@ fn date_numbered<T: Source>(source: &T, n: usize, matrix: &[Option<T::Span>], da
 
 // Writes the dates of all points by the date rule on the matrix of the source's least totals. They are a plan of its hulls.
 pub fn date_points<T: Source>(source: &T, matrix: &[Option<T::Span>], dates: &mut [T::Span])
-    requires legal { Legal T.Span.Span.kind (means source.now) }
-    requires room { ((means source.now).points * (means source.now).points ≤ length matrix.now) × ((means source.now).points ≤ length dates.old) }
-    requires closed { Closes T.Span.Span.kind (means source.now) matrix.now }
-    ensures dated { ByDateRule T.Span.Span.kind (entry_of (means source.now).points matrix.now)
-        (take (means source.now).points dates.new) (means source.now).points }
-    ensures plan { Plan T.Span.Span.kind (hulls (means source.now)) (take (means source.now).points dates.new) }
-    ensures rest { drop (means source.now).points dates.new ≡ drop (means source.now).points dates.old }
+    requires legal { Legal T.Span.Span.kind (T.Source.means source.now) }
+    requires room { ((T.Source.means source.now).points * (T.Source.means source.now).points ≤ length matrix.now) × ((T.Source.means source.now).points ≤ length dates.old) }
+    requires closed { Closes T.Span.Span.kind (T.Source.means source.now) matrix.now }
+    ensures dated { ByDateRule T.Span.Span.kind (entry_of (T.Source.means source.now).points matrix.now)
+        (take (T.Source.means source.now).points dates.new) (T.Source.means source.now).points }
+    ensures plan { Plan T.Span.Span.kind (hulls (T.Source.means source.now)) (take (T.Source.means source.now).points dates.new) }
+    ensures rest { drop (T.Source.means source.now).points dates.new ≡ drop (T.Source.means source.now).points dates.old }
 {
     date_numbered(source, source.points(), matrix, dates);
 }

@@ -14,7 +14,7 @@ use spans::Span;
 
 // The weight of the edge forward of condition k.
 fn forward_weight<T: Source>(source: &T, k: usize) -> Option<T::Span>
-    ensures { result ≡ (hull_of T.Span.Span.kind (means source.now) k).high }
+    ensures { result ≡ (hull_of T.Span.Span.kind (T.Source.means source.now) k).high }
 {
     let hull = Hull::over(source);
     hull.high(k, 0)
@@ -22,7 +22,7 @@ fn forward_weight<T: Source>(source: &T, k: usize) -> Option<T::Span>
 
 // The weight of the edge back of condition k.
 fn backward_weight<T: Source>(source: &T, k: usize) -> Option<T::Span>
-    ensures { result ≡ opposite_end T.Span.Span.kind (hull_of T.Span.Span.kind (means source.now) k).low }
+    ensures { result ≡ opposite_end T.Span.Span.kind (hull_of T.Span.Span.kind (T.Source.means source.now) k).low }
 {
     let hull = Hull::over(source);
     match hull.low(k, 0) {
@@ -44,7 +44,7 @@ fn put_edge<S: Span>(
     requires points { (n ≤ most_points) × ((from < n) × (to < n)) }
     requires room { (n * n ≤ length matrix.old) × (n * n ≤ length codes.old) }
     ensures filled { (edges : ℕ → ℕ → Coded S) → Filled n edges matrix.old codes.old
-        → Filled n (λ i j. lesser kind (edges i j) (only_at from to i j (coded code weight))) matrix.new codes.new }
+        → Filled n (λ i j. lesser S.Span.kind (edges i j) (only_at from to i j (coded code weight))) matrix.new codes.new }
     ensures rest { Rest n matrix.old matrix.new }
 {
     let at = place(n, from, to);
@@ -75,11 +75,11 @@ fn put_condition<T: Source>(
     matrix: &mut [Option<T::Span>],
     codes: &mut [u16],
 )
-    requires points { (n ≡ (means source.now).points) × ((n ≤ most_points) × (k < length (means source.now).conditions)) }
+    requires points { (n ≡ (T.Source.means source.now).points) × ((n ≤ most_points) × (k < length (T.Source.means source.now).conditions)) }
     requires room { (n * n ≤ length matrix.old) × (n * n ≤ length codes.old) }
-    requires legal { Legal T.Span.Span.kind (means source.now) }
-    requires filled { Filled n (least_edge T.Span.Span.kind (means source.now) k) matrix.old codes.old }
-    ensures filled { Filled n (least_edge T.Span.Span.kind (means source.now) (suc k)) matrix.new codes.new }
+    requires legal { Legal T.Span.Span.kind (T.Source.means source.now) }
+    requires filled { Filled n (least_edge T.Span.Span.kind (T.Source.means source.now) k) matrix.old codes.old }
+    ensures filled { Filled n (least_edge T.Span.Span.kind (T.Source.means source.now) (suc k)) matrix.new codes.new }
     ensures rest { Rest n matrix.old matrix.new }
 {
     let from = source.from(k);
@@ -107,7 +107,7 @@ fn put_condition<T: Source>(
 // Zero from each point to itself.
 fn put_zeros<S: Span>(matrix: &mut [Option<S>], n: usize)
     requires { (n ≤ most_points) × (n * n ≤ length matrix.old) }
-    ensures matrix { (i j : ℕ) → table n matrix.new i j ≡ (if nat_eq i j then (if nat_lt i n then Some kind.zero else None) else table n matrix.old i j) }
+    ensures matrix { (i j : ℕ) → table n matrix.new i j ≡ (if nat_eq i j then (if nat_lt i n then Some S.Span.kind.zero else None) else table n matrix.old i j) }
     ensures rest { Rest n matrix.old matrix.new }
 {
     for m in 0..n {
@@ -124,11 +124,11 @@ pub(crate) fn fill_edges<T: Source>(
     codes: &mut [u16],
     middles: &mut [u8],
 )
-    requires points { (n ≡ (means source.now).points) × (n ≤ most_points) }
+    requires points { (n ≡ (T.Source.means source.now).points) × (n ≤ most_points) }
     requires room { (n * n ≤ length matrix.old) × ((n * n ≤ length codes.old) × (n * n ≤ length middles.old)) }
-    requires legal { Legal T.Span.Span.kind (means source.now) }
-    ensures matrix { (i j : ℕ) → table n matrix.new i j ≡ begun T.Span.Span.kind (means source.now) i j }
-    ensures codes { (i j c : ℕ) (a : T.Span) → least_edge T.Span.Span.kind (means source.now) (length (means source.now).conditions) i j ≡ Some (a, c)
+    requires legal { Legal T.Span.Span.kind (T.Source.means source.now) }
+    ensures matrix { (i j : ℕ) → table n matrix.new i j ≡ begun T.Span.Span.kind (T.Source.means source.now) i j }
+    ensures codes { (i j c : ℕ) (a : T.Span) → least_edge T.Span.Span.kind (T.Source.means source.now) (length (T.Source.means source.now).conditions) i j ≡ Some (a, c)
         → numbers n codes.new i j ≡ c }
     ensures middles { (i j : ℕ) → numbers n middles.new i j ≡ 0 }
     ensures rest { Rest n matrix.old matrix.new }

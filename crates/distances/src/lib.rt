@@ -26,7 +26,7 @@ pub fn tighten<T: Source>(
     matrix: &mut [Option<T::Span>],
     cycle: &mut [u16],
 ) -> Result<(), Fault>
-    ensures tightened { Tightens T.Span.Span.kind (means source.now) matrix.old cycle.old result matrix.new cycle.new }
+    ensures tightened { Tightens T.Span.Span.kind (T.Source.means source.now) matrix.old cycle.old result matrix.new cycle.new }
     ensures networks { NetworksDecided T.Span.Span.kind }
 {
     let lent = Lent {

@@ -55,7 +55,7 @@ pub(crate) fn blank<A: Copy>(cells: &mut [A], n: usize, value: A)
 
 // Whether y is there, and x is missing or greater.
 fn is_better<S: Span>(y: Option<S>, x: Option<S>) -> bool
-    ensures { result ≡ beats kind y x }
+    ensures { result ≡ beats S.Span.kind y x }
 {
     match (y, x) {
         (None, _) => false,
@@ -73,8 +73,8 @@ pub(crate) fn improve<S: Span, M: Copy>(
     mark: M,
 )
     requires { (at < length matrix.old) × (at < length marks.old) }
-    ensures matrix { matrix.new ≡ (if beats kind way (slice_index_or matrix.old at None) then slice_set matrix.old at way else matrix.old) }
-    ensures marks { marks.new ≡ (if beats kind way (slice_index_or matrix.old at None) then slice_set marks.old at mark else marks.old) }
+    ensures matrix { matrix.new ≡ (if beats S.Span.kind way (slice_index_or matrix.old at None) then slice_set matrix.old at way else matrix.old) }
+    ensures marks { marks.new ≡ (if beats S.Span.kind way (slice_index_or matrix.old at None) then slice_set marks.old at mark else marks.old) }
 {
     if is_better(way, matrix[at]) {
         matrix[at] = way;

@@ -10,7 +10,7 @@ use spans::Span;
 
 // The way on from the span `front` by an entry.
 fn way_on<S: Span>(front: S, back: Option<S>) -> Option<S>
-    ensures { result ≡ joined kind (Some front) back }
+    ensures { result ≡ joined S.Span.kind (Some front) back }
 {
     match back {
         Some(b) => front.sum(b),
@@ -28,9 +28,9 @@ fn relax_entry<S: Span>(
     mark: u8,
 )
     requires { (at < length matrix.old) × ((at < length middles.old) × (back < length matrix.old)) }
-    ensures matrix { matrix.new ≡ cond (beats kind (joined kind (Some front) (slice_index_or matrix.old back None)) (slice_index_or matrix.old at None))
-        (slice_set matrix.old at (joined kind (Some front) (slice_index_or matrix.old back None))) matrix.old }
-    ensures middles { middles.new ≡ cond (beats kind (joined kind (Some front) (slice_index_or matrix.old back None)) (slice_index_or matrix.old at None))
+    ensures matrix { matrix.new ≡ cond (beats S.Span.kind (joined S.Span.kind (Some front) (slice_index_or matrix.old back None)) (slice_index_or matrix.old at None))
+        (slice_set matrix.old at (joined S.Span.kind (Some front) (slice_index_or matrix.old back None))) matrix.old }
+    ensures middles { middles.new ≡ cond (beats S.Span.kind (joined S.Span.kind (Some front) (slice_index_or matrix.old back None)) (slice_index_or matrix.old at None))
         (slice_set middles.old at mark) middles.old }
 {
     let way = way_on(front, matrix[back]);
@@ -51,7 +51,7 @@ fn relax_part<S: Span>(
     requires points { (n ≤ most_points) × ((i < n) × ((k < n) × ((start ≤ end) × (end ≤ n)))) }
     requires apart { (j : ℕ) → start ≤ j → j < end → i ≢ j }
     requires room { (n * n ≤ length matrix.old) × (n * n ≤ length middles.old) }
-    ensures taken { RowTaken kind n k i front matrix.old matrix.new middles.old middles.new start end }
+    ensures taken { RowTaken S.Span.kind n k i front matrix.old matrix.new middles.old middles.new start end }
     ensures rest { Rest n matrix.old matrix.new }
 {
     let row = place(n, i, 0);
@@ -74,9 +74,9 @@ fn relax_row<S: Span>(
     requires points { (n ≤ most_points) × ((i < n) × (k < n)) }
     requires room { (n * n ≤ length matrix.old) × (n * n ≤ length middles.old) }
     requires front { table n matrix.old i k ≡ Some front }
-    ensures matrix { RowUpto (table n matrix.old) (table n matrix.new) (stage kind (table n matrix.old) k) i n }
+    ensures matrix { RowUpto (table n matrix.old) (table n matrix.new) (stage S.Span.kind (table n matrix.old) k) i n }
     ensures middles { RowUpto (numbers n middles.old) (numbers n middles.new)
-        (stage_middles kind (table n matrix.old) (numbers n middles.old) k) i n }
+        (stage_middles S.Span.kind (table n matrix.old) (numbers n middles.old) k) i n }
     ensures rest { Rest n matrix.old matrix.new }
 {
     relax_part(matrix, middles, n, k, i, front, 0, i);
@@ -87,10 +87,10 @@ fn relax_row<S: Span>(
 pub(crate) fn relax_stage<S: Span>(matrix: &mut [Option<S>], middles: &mut [u8], n: usize, k: usize)
     requires points { (n ≤ most_points) × (k < n) }
     requires room { (n * n ≤ length matrix.old) × (n * n ≤ length middles.old) }
-    requires diagonal { table n matrix.old k k ≡ Some kind.zero }
-    requires small { Small kind (table n matrix.old) reach }
-    ensures matrix { (p q : ℕ) → table n matrix.new p q ≡ stage kind (table n matrix.old) k p q }
-    ensures middles { (p q : ℕ) → numbers n middles.new p q ≡ stage_middles kind (table n matrix.old) (numbers n middles.old) k p q }
+    requires diagonal { table n matrix.old k k ≡ Some S.Span.kind.zero }
+    requires small { Small S.Span.kind (table n matrix.old) reach }
+    ensures matrix { (p q : ℕ) → table n matrix.new p q ≡ stage S.Span.kind (table n matrix.old) k p q }
+    ensures middles { (p q : ℕ) → numbers n middles.new p q ≡ stage_middles S.Span.kind (table n matrix.old) (numbers n middles.old) k p q }
     ensures rest { Rest n matrix.old matrix.new }
 {
     for i in 0..n {

@@ -19,9 +19,9 @@ fn tighten_checked<T: Source>(
     matrix: &mut [Option<T::Span>],
     cycle: &mut [u16],
 ) -> Result<(), Fault>
-    requires legal { Legal T.Span.Span.kind (means source.now) }
-    requires room { ((means source.now).points * (means source.now).points ≤ length matrix.old) × ((means source.now).points ≤ length cycle.old) }
-    ensures { Ends T.Span.Span.kind (means source.now) matrix.old cycle.old result matrix.new cycle.new }
+    requires legal { Legal T.Span.Span.kind (T.Source.means source.now) }
+    requires room { ((T.Source.means source.now).points * (T.Source.means source.now).points ≤ length matrix.old) × ((T.Source.means source.now).points ≤ length cycle.old) }
+    ensures { Ends T.Span.Span.kind (T.Source.means source.now) matrix.old cycle.old result matrix.new cycle.new }
 {
     let mut middles = [0u8; MOST_ENTRIES];
     let mut codes = [0u16; MOST_ENTRIES];
@@ -43,7 +43,7 @@ pub(crate) fn tighten_lent<T: Source>(
     cycle: &mut [u16],
 ) -> Result<(), Fault>
     requires { lent ≡ record { matrix = length matrix.now; cycle = length cycle.old; dates = None } }
-    ensures tightened { Tightens T.Span.Span.kind (means source.now) matrix.old cycle.old result matrix.new cycle.new }
+    ensures tightened { Tightens T.Span.Span.kind (T.Source.means source.now) matrix.old cycle.old result matrix.new cycle.new }
     ensures networks { NetworksDecided T.Span.Span.kind }
 {
     check(source, lent)?;

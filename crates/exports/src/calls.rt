@@ -58,7 +58,7 @@ fn count_granted<T: Source>(
     cycle: &mut [u16],
     times: usize,
 ) -> usize
-    ensures { AllOrNone T.Span.Span.kind (means source.now) (length memory.old) (length cycle.old) times result }
+    ensures { AllOrNone T.Span.Span.kind (T.Source.means source.now) (length memory.old) (length cycle.old) times result }
 {
     let mut granted = 0;
     for _i in 0..times {

@@ -7,7 +7,7 @@ use spans::Span;
 
 // The next choice condition from number `from` on, or the number of conditions where there is none.
 fn next_choice<T: Source>(source: &T, from: usize) -> usize
-    ensures { NextChoice (means source.now) from result }
+    ensures { NextChoice (T.Source.means source.now) from result }
 {
     let count = source.conditions();
     for k in from..count {
@@ -20,8 +20,8 @@ fn next_choice<T: Source>(source: &T, from: usize) -> usize
 
 // The places of the choice conditions, of which there are at most six, and then the number of conditions.
 pub(crate) fn choice_places<T: Source>(source: &T) -> [usize; 7]
-    requires { Legal Span-as-Span.kind (means source.now) }
-    ensures { Places (means source.now) result }
+    requires { Legal T.Span.Span.kind (T.Source.means source.now) }
+    ensures { Places (T.Source.means source.now) result }
 {
     let a = next_choice(source, 0);
     let b = next_choice(source, a + 1);
@@ -34,7 +34,7 @@ pub(crate) fn choice_places<T: Source>(source: &T) -> [usize; 7]
 
 // How many windows there are to choose from at a place; one past the last condition.
 pub(crate) fn turns<T: Source>(source: &T, place: usize) -> usize
-    ensures { Turns (means source.now) place result }
+    ensures { Turns (T.Source.means source.now) place result }
 {
     if place < source.conditions() {
         source.windows(place)

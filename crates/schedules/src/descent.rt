@@ -24,15 +24,15 @@ pub(crate) fn descend<T: Source>(
     middles: &mut [u8],
     codes: &mut [u16],
 ) -> Option<[u8; 64]>
-    requires legal { Legal T.Span.Span.kind (means source.now) }
-    requires room { ((means source.now).points * (means source.now).points ≤ length matrix.old) × (((means source.now).points * (means source.now).points ≤ length middles.old) × ((means source.now).points * (means source.now).points ≤ length codes.old)) }
-    requires places { (Places (means source.now) places) × (l < 6) }
-    requires upto { ChosenUpto (means source.now) windows (slice_index places l) }
-    requires turn { (r : ℕ) → Turns (means source.now) (slice_index places l) r → w < r }
-    requires closed { w ≡ 0 → Closes T.Span.Span.kind (chosen (means source.now) windows (slice_index places l)) matrix.old }
-    ensures goes { MatchOption result (RuledOut T.Span.Span.kind (means source.now) windows (slice_index places l) w)
-        (λ us. GoesOn T.Span.Span.kind (means source.now) windows (slice_index places l) w us (slice_index places (suc l)) matrix.new) }
-    ensures rest { Rest (means source.now).points matrix.old matrix.new }
+    requires legal { Legal T.Span.Span.kind (T.Source.means source.now) }
+    requires room { ((T.Source.means source.now).points * (T.Source.means source.now).points ≤ length matrix.old) × (((T.Source.means source.now).points * (T.Source.means source.now).points ≤ length middles.old) × ((T.Source.means source.now).points * (T.Source.means source.now).points ≤ length codes.old)) }
+    requires places { (Places (T.Source.means source.now) places) × (l < 6) }
+    requires upto { ChosenUpto (T.Source.means source.now) windows (slice_index places l) }
+    requires turn { (r : ℕ) → Turns (T.Source.means source.now) (slice_index places l) r → w < r }
+    requires closed { w ≡ 0 → Closes T.Span.Span.kind (chosen (T.Source.means source.now) windows (slice_index places l)) matrix.old }
+    ensures goes { MatchOption result (RuledOut T.Span.Span.kind (T.Source.means source.now) windows (slice_index places l) w)
+        (λ us. GoesOn T.Span.Span.kind (T.Source.means source.now) windows (slice_index places l) w us (slice_index places (suc l)) matrix.new) }
+    ensures rest { Rest (T.Source.means source.now).points matrix.old matrix.new }
 {
     let place = places[l];
     if place >= source.conditions() {

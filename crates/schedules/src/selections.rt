@@ -29,13 +29,13 @@ pub(crate) fn first_selection<T: Source>(
     middles: &mut [u8],
     codes: &mut [u16],
 ) -> Option<[u8; 64]>
-    requires legal { Legal T.Span.Span.kind (means source.now) }
-    requires room { ((means source.now).points * (means source.now).points ≤ length matrix.old) × (((means source.now).points * (means source.now).points ≤ length middles.old) × ((means source.now).points * (means source.now).points ≤ length codes.old)) }
-    requires places { Places (means source.now) places }
-    requires closed { Closes T.Span.Span.kind (hulls (means source.now)) matrix.old }
-    ensures found { MatchOption result (HasPlan T.Span.Span.kind (means source.now) → ⊥)
-        (λ us. FoundFirst T.Span.Span.kind (means source.now) us matrix.new) }
-    ensures rest { Rest (means source.now).points matrix.old matrix.new }
+    requires legal { Legal T.Span.Span.kind (T.Source.means source.now) }
+    requires room { ((T.Source.means source.now).points * (T.Source.means source.now).points ≤ length matrix.old) × (((T.Source.means source.now).points * (T.Source.means source.now).points ≤ length middles.old) × ((T.Source.means source.now).points * (T.Source.means source.now).points ≤ length codes.old)) }
+    requires places { Places (T.Source.means source.now) places }
+    requires closed { Closes T.Span.Span.kind (hulls (T.Source.means source.now)) matrix.old }
+    ensures found { MatchOption result (HasPlan T.Span.Span.kind (T.Source.means source.now) → ⊥)
+        (λ us. FoundFirst T.Span.Span.kind (T.Source.means source.now) us matrix.new) }
+    ensures rest { Rest (T.Source.means source.now).points matrix.old matrix.new }
 {
     let mut found = None;
     let start = first_windows();

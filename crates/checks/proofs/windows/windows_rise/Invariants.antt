@@ -6,4 +6,4 @@ use Rattle.checks.proofs.windows.windows_rise.Given as goal
 abbrev pub invariant-loop-w : goal.invariant-loop-w
 invariant-loop-w g l =
     let ws = (condition_at (g.T.Source.means l.source) l.k).windows in
-    rises g.Span.Span.kind (drop l.w ws) ≡ rises g.Span.Span.kind ws
+    rises g.T.Span.Span.kind (drop l.w ws) ≡ rises g.T.Span.Span.kind ws

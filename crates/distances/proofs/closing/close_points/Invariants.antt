@@ -6,6 +6,6 @@ use Rattle.distances.proofs.closing.close_points.Given as goal
 
 abbrev pub invariant-loop-k : goal.invariant-loop-k
 invariant-loop-k g l =
-    Stands g.Span.Span.kind (g.T.Source.means l.source) (numbers l.n l.codes) largest_total
+    Stands g.T.Span.Span.kind (g.T.Source.means l.source) (numbers l.n l.codes) largest_total
     (table l.n l.matrix) (numbers l.n l.middles) l.k
     × Rest l.n l.initial.matrix l.matrix

@@ -6,8 +6,8 @@ use Rattle.distances.proofs.OneDating.{written_more, rule_at_front}
 use Rattle.distances.proofs.Dating.{dates_small}
 use Rattle.distances.proofs.dates.date_all.Goals as goal
 
-pub date-of-requires : goal.date-of-requires
-date-of-requires g c =
+pub date_of-requires : goal.date_of-requires
+date_of-requires g c =
     let d = table c.args.n c.args.matrix.now in
     record {
       points = (c.requires.points, (c.loop-p-test.true, (c.requires.room.0, omega arith)));
@@ -19,8 +19,8 @@ pub loop-p-preserved : goal.loop-p-preserved
 loop-p-preserved g c =
     let d = table c.args.n c.args.matrix.now in
     let p = c.loop-p.p in (
-      written_more g.S.Span.kind d c.loop-p.dates p c.date-of.result (omega arith) c.loop-p.invariant.0 c.date-of.ensures,
-      drop-set-lt c.args.n c.loop-p.dates p c.date-of.result c.loop-p-test.true ∙ c.loop-p.invariant.1,
+      written_more g.S.Span.kind d c.loop-p.dates p c.date_of.result (omega arith) c.loop-p.invariant.0 c.date_of.ensures,
+      drop-set-lt c.args.n c.loop-p.dates p c.date_of.result c.loop-p-test.true ∙ c.loop-p.invariant.1,
     )
 
 pub returns : goal.returns

@@ -3,8 +3,8 @@ use Rattle.std.proofs.Common.{take, arith}
 use Rattle.distances.proofs.Endings.{numbered_done, numbered_dates}
 use Rattle.distances.proofs.dates.date_numbered.Goals as goal
 
-pub date-all-requires : goal.date-all-requires
-date-all-requires g c =
+pub date_all-requires : goal.date_all-requires
+date_all-requires g c =
     let N = g.T.Source.means c.args.source.now in
     record {
       points = omega (arith, c.requires.legal.few_points);
@@ -16,9 +16,9 @@ pub returns : goal.returns
 returns g c =
     let N = g.T.Source.means c.args.source.now in
     let both = numbered_dates g.met.Span.Span.lawful N c.requires.legal c.args.matrix.now c.requires.closed c.args.n c.requires.points
-    (take c.args.n c.date-all.new.dates) c.date-all.ensures.dated in
+    (take c.args.n c.date_all.new.dates) c.date_all.ensures.dated in
     record {
       dated = both.0;
       plan = both.1;
-      rest = c.date-all.ensures.rest;
+      rest = c.date_all.ensures.rest;
     }

@@ -10,9 +10,9 @@ loop-q-preserved g c =
     let q = c.loop-q.q in
     let below : q < c.args.p = omega arith in
     latest_more g.met.S.Span.lawful (table c.args.n c.args.matrix.now) c.args.dates.now c.args.p q
-    c.date-at.result c.entry.result c.loop-q.best c.latest-from.result c.earlier-best.result c.date-at.ensures c.entry.ensures
+    c.date_at.result c.entry.result c.loop-q.best c.latest_from.result c.earlier-best.result c.date_at.ensures c.entry.ensures
     (λ a h. omega (arith, c.requires.near q below, c.requires.small q c.args.p a h))
-    c.latest-from.ensures c.earlier-best.ensures c.loop-q.invariant
+    c.latest_from.ensures c.earlier-best.ensures c.loop-q.invariant
 
 pub returns : goal.returns
 returns g c =

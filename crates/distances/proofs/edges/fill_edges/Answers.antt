@@ -9,32 +9,32 @@ use Rattle.distances.proofs.edges.fill_edges.Goals as goal
 pub loop-k-init : goal.loop-k-init
 loop-k-init g c = (
   simp c.blank.ensures
-      (none_filled g.Span.Span.kind (g.T.Source.means c.args.source.now) c.args.n c.args.matrix.now c.args.codes.now),
+      (none_filled g.T.Span.Span.kind (g.T.Source.means c.args.source.now) c.args.n c.args.matrix.now c.args.codes.now),
   refl,
 )
 
 pub loop-k-preserved : goal.loop-k-preserved
 loop-k-preserved g c =
-    let K = g.Span.Span.kind in
+    let K = g.T.Span.Span.kind in
     let N = g.T.Source.means c.args.source.now in
-    let e = c.put-condition.ensures in (
-      subst (λ (k : ℕ). Filled c.args.n (least_edge K N k) c.put-condition.new.matrix c.put-condition.new.codes)
+    let e = c.put_condition.ensures in (
+      subst (λ (k : ℕ). Filled c.args.n (least_edge K N k) c.put_condition.new.matrix c.put_condition.new.codes)
           (sym (add-one c.loop-k.k)) e.filled,
       e.rest ∙ c.loop-k.invariant.1,
     )
 
 pub returns : goal.returns
 returns g c =
-    let K = g.Span.Span.kind in
+    let K = g.T.Span.Span.kind in
     let N = g.T.Source.means c.args.source.now in
     let n = c.args.n in
     let all : c.loop-k.k ≡ length N.conditions = omega arith in
     let filled : Filled n (least_edge K N (length N.conditions)) c.loop-k.matrix c.loop-k.codes = rw all at c.loop-k.invariant.0 in
     record {
-      matrix = λ i j. c.put-zeros.ensures.matrix i j ∙ begun_is K N n c.loop-k.matrix c.loop-k.codes (omega arith) filled i j;
+      matrix = λ i j. c.put_zeros.ensures.matrix i j ∙ begun_is K N n c.loop-k.matrix c.loop-k.codes (omega arith) filled i j;
       codes = filled.codes_beside;
       middles = λ i j. ap (λ l. numbers n l i j) c.blank-2.ensures ∙ blank_square 0 n 0 c.args.middles.now i j;
       rest =
-          c.put-zeros.ensures.rest ∙ c.loop-k.invariant.1
+          c.put_zeros.ensures.rest ∙ c.loop-k.invariant.1
           ∙ ap (drop (n * n)) c.blank.ensures ∙ blank_rest None n None c.args.matrix.now;
     }

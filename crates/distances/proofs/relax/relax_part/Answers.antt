@@ -6,8 +6,8 @@ use Rattle.distances.proofs.relax.relax_part.Goals as goal
 pub loop-j-init : goal.loop-j-init
 loop-j-init g c = (λ d m f u v. (u, v), refl)
 
-pub relax-entry-requires : goal.relax-entry-requires
-relax-entry-requires g c =
+pub relax_entry-requires : goal.relax_entry-requires
+relax_entry-requires g c =
     let here = place_below c.args.n c.args.i c.loop-j.j (omega arith) (omega arith) in
     let there = place_below c.args.n c.args.k c.loop-j.j (omega arith) (omega arith) in
     (omega arith, (omega arith, omega arith))
@@ -32,11 +32,11 @@ loop-j-preserved g c =
             back_is = omega arith;
             upto = so_far.0;
           } in (
-            turn_matrix K n k d t c.relax-entry.new.matrix c.relax-entry.ensures.matrix,
-            turn_middles K n k d t m c.loop-j.middles c.relax-entry.new.middles (omega arith) (omega arith) so_far.1 c.relax-entry.ensures.middles,
+            turn_matrix K n k d t c.relax_entry.new.matrix c.relax_entry.ensures.matrix,
+            turn_middles K n k d t m c.loop-j.middles c.relax_entry.new.middles (omega arith) (omega arith) so_far.1 c.relax_entry.ensures.middles,
           ),
-      place_rest K n c.args.i c.loop-j.j (c.place-row.result + c.loop-j.j) (c.place-via.result + c.loop-j.j) c.args.front c.loop-j.matrix c.relax-entry.new.matrix
-          (omega arith) (omega arith) (omega arith) (omega arith) c.relax-entry.ensures.matrix ∙ inv.1,
+      place_rest K n c.args.i c.loop-j.j (c.place-row.result + c.loop-j.j) (c.place-via.result + c.loop-j.j) c.args.front c.loop-j.matrix c.relax_entry.new.matrix
+          (omega arith) (omega arith) (omega arith) (omega arith) c.relax_entry.ensures.matrix ∙ inv.1,
     )
 
 pub returns : goal.returns

@@ -12,8 +12,8 @@ returns g c =
     let i = c.args.i in
     let d = table n c.args.matrix.now in
     let m = numbers n c.args.middles.now in
-    let one = c.relax-part.ensures.taken d m c.requires.front (row_none i) (row_none i) in
+    let one = c.relax_part.ensures.taken d m c.requires.front (row_none i) (row_none i) in
     let still = itself K d k i i refl in
-    let two = c.relax-part-2.ensures.taken d m c.requires.front
+    let two = c.relax_part-2.ensures.taken d m c.requires.front
     (row_pass one.0 (sym (stage_keeps K d k i i still))) (row_pass one.1 (sym (middle_keeps K d k m i i still))) in
-    record { matrix = two.0; middles = two.1; rest = c.relax-part-2.ensures.rest ∙ c.relax-part.ensures.rest }
+    record { matrix = two.0; middles = two.1; rest = c.relax_part-2.ensures.rest ∙ c.relax_part.ensures.rest }

@@ -23,9 +23,9 @@ loop-i-preserved g c =
     elim c.if-i-k.branch [
       | then-i-k+in-Some w ↦
           simp (w.matrix_is, w.middles-is) (
-            next_matrix laws n k d t w.relax-row.new.matrix w.relax-row.ensures.matrix,
-            next_middles laws n k d t m c.loop-i.middles w.relax-row.new.middles inv.1 w.relax-row.ensures.middles,
-            w.relax-row.ensures.rest ∙ inv.2,
+            next_matrix laws n k d t w.relax_row.new.matrix w.relax_row.ensures.matrix,
+            next_middles laws n k d t m c.loop-i.middles w.relax_row.new.middles inv.1 w.relax_row.ensures.middles,
+            w.relax_row.ensures.rest ∙ inv.2,
           )
       | then-i-k+in_default w ↦
           let e = sym w.in_default.ensures in

@@ -33,7 +33,7 @@ unfold-first-requires t c =
     let codes = numbers n c.args.codes.now in
     let m = c.middle-over.result - 1 in
     let over : mid i j ≡ suc m = over_point c.middle-over.result _ c.middle-over.ensures c.if-over-eq0.false in
-    let falls = subst (λ (w : Way). mid w.from w.to < mid i j) (sym c.up-to.ensures) (first_falls n mid codes i j _ c.requires.way m over) in (
+    let falls = subst (λ (w : Way). mid w.from w.to < mid i j) (sym c.up_to.ensures) (first_falls n mid codes i j _ c.requires.way m over) in (
       omega (arith, falls),
       (
         omega arith,
@@ -41,7 +41,7 @@ unfold-first-requires t c =
           omega arith,
           (
             omega arith,
-            subst (λ (w : Way). Unfoldable n mid codes w.from w.to (length c.args.out.now)) (sym c.up-to.ensures) (first_half n mid codes i j _ c.requires.way m over),
+            subst (λ (w : Way). Unfoldable n mid codes w.from w.to (length c.args.out.now)) (sym c.up_to.ensures) (first_half n mid codes i j _ c.requires.way m over),
           ),
         ),
       ),
@@ -57,8 +57,8 @@ unfold-second-requires t c =
     let m = c.middle-over.result - 1 in
     let half = c.unfold-first.new.out in
     let over : mid i j ≡ suc m = over_point c.middle-over.result _ c.middle-over.ensures c.if-over-eq0.false in
-    let first = subst (λ (w : Way). Unfolded mid codes w.from w.to c.args.out.now half c.unfold-first.result) c.up-to.ensures c.unfold-first.ensures.unfolded in
-    let falls = subst (λ (w : Way). mid w.from w.to < mid i j) (sym c.on-from.ensures) (second_falls n mid codes i j _ c.requires.way m over) in (
+    let first = subst (λ (w : Way). Unfolded mid codes w.from w.to c.args.out.now half c.unfold-first.result) c.up_to.ensures c.unfold-first.ensures.unfolded in
+    let falls = subst (λ (w : Way). mid w.from w.to < mid i j) (sym c.on_from.ensures) (second_falls n mid codes i j _ c.requires.way m over) in (
       omega (arith, falls),
       (
         omega arith,
@@ -66,7 +66,7 @@ unfold-second-requires t c =
           omega arith,
           (
             omega arith,
-            subst (λ (w : Way). Unfoldable n mid codes w.from w.to (length (take (length half - c.unfold-first.result) (drop c.unfold-first.result half)))) (sym c.on-from.ensures)
+            subst (λ (w : Way). Unfoldable n mid codes w.from w.to (length (take (length half - c.unfold-first.result) (drop c.unfold-first.result half)))) (sym c.on_from.ensures)
                 (second_half n mid codes i j (length c.args.out.now) c.requires.way m over c.args.out.now half c.unfold-first.result first _
                 (behind_length half c.unfold-first.result _ (omega arith))),
           ),
@@ -85,8 +85,8 @@ returns t c =
     let half = c.unfold-first.new.out in
     let behind = take (length half - c.unfold-first.result) (drop c.unfold-first.result half) in
     let over : mid i j ≡ suc m = over_point c.middle-over.result _ c.middle-over.ensures c.if-over-eq0.false in
-    let first = subst (λ (w : Way). Unfolded mid codes w.from w.to c.args.out.now half c.unfold-first.result) c.up-to.ensures c.unfold-first.ensures.unfolded in
-    let second = subst (λ (w : Way). Unfolded mid codes w.from w.to behind c.unfold-second.new.out c.unfold-second.result) c.on-from.ensures c.unfold-second.ensures.unfolded in
+    let first = subst (λ (w : Way). Unfolded mid codes w.from w.to c.args.out.now half c.unfold-first.result) c.up_to.ensures c.unfold-first.ensures.unfolded in
+    let second = subst (λ (w : Way). Unfolded mid codes w.from w.to behind c.unfold-second.new.out c.unfold-second.result) c.on_from.ensures c.unfold-second.ensures.unfolded in
     record {
       within = whole_within n mid codes i j (length c.args.out.now) c.requires.way m over c.args.out.now half c.unfold-first.result first behind c.unfold-second.new.out c.unfold-second.result second;
       unfolded = unfolded_halves n mid codes i j (length c.args.out.now) c.requires.way m over c.args.out.now half c.unfold-first.result first behind c.unfold-second.new.out c.unfold-second.result second refl;

@@ -11,12 +11,12 @@ close-requires g c =
     let few = entries_few N.points c.requires.legal.few_points in
     record { legal = c.requires.legal; room = (c.requires.room.0, (few, few)) }
 
-pub give-up-edges-requires : goal.give-up-edges-requires
-give-up-edges-requires g c =
+pub give_up-edges-requires : goal.give_up-edges-requires
+give_up-edges-requires g c =
     let N = g.T.Source.means c.args.source.now in
     let is : c.points-n.result ≡ N.points = c.points-n.ensures in
     let few = entries_few c.points-n.result (omega (arith, c.requires.legal.few_points)) in
-    let no = with_number g.Span.Span.kind N c.args.matrix.now c.args.cycle.now c.points-n.result c.close.new.middles c.close.new.codes
+    let no = with_number g.T.Span.Span.kind N c.args.matrix.now c.args.cycle.now c.points-n.result c.close.new.middles c.close.new.codes
     c.in-Some.edge.first c.in-Some.edge.last is c.in-Some.ensures.ends in
     record {
       points = (omega (arith, c.requires.legal.few_points), (omega (arith, no.first_there), omega (arith, no.last_there)));
@@ -29,13 +29,13 @@ pub returns-in-Some : goal.returns-in-Some
 returns-in-Some g c =
     let N = g.T.Source.means c.args.source.now in
     let n = c.points-n.result in
-    let K = g.Span.Span.kind in
+    let K = g.T.Span.Span.kind in
     let first = c.in-Some.edge.first in
     let last = c.in-Some.edge.last in (
-      c.give-up-edges.result,
+      c.give_up-edges.result,
       refl,
-      contradicted K N c.args.matrix.now c.args.cycle.now n (numbers n c.close.new.middles) (numbers n c.close.new.codes) first last c.give-up-edges.result
-          c.close.new.matrix c.give-up-edges.new.matrix c.give-up-edges.new.cycle c.requires.legal c.points-n.ensures
+      contradicted K N c.args.matrix.now c.args.cycle.now n (numbers n c.close.new.middles) (numbers n c.close.new.codes) first last c.give_up-edges.result
+          c.close.new.matrix c.give_up-edges.new.matrix c.give_up-edges.new.cycle c.requires.legal c.points-n.ensures
           (with_number K N c.args.matrix.now c.args.cycle.now n c.close.new.middles c.close.new.codes first last c.points-n.ensures c.in-Some.ensures.ends)
-          c.close.ensures.rest c.give-up-edges.ensures.cycle c.give-up-edges.ensures.blank,
+          c.close.ensures.rest c.give_up-edges.ensures.cycle c.give_up-edges.ensures.blank,
     )

@@ -13,10 +13,10 @@ pub returns-in_err-check : goal.returns-in_err-check
 returns-in_err-check g c =
     let N = g.T.Source.means c.args.source.now in
     let f = c.in_err-check.field-0.0 in
-    let p = err_from_is_err_and c.from-residual.result c.from-residual.ensures.1 in
+    let p = err_from_is_err_and c.from_residual.result c.from_residual.ensures.1 in
     record {
-      tightened = rw (p.1, p.2) (after_refusal g.Span.Span.kind N c.args.matrix.now c.args.cycle.now _ (Err f) c.args.matrix.now c.args.cycle.now
-          (c.in_err-check.ensures.refusal ∙ ap (checks_refusal g.Span.Span.kind N most_conditions) c.requires) (refusal_of f) refl refl refl);
+      tightened = rw (p.1, p.2) (after_refusal g.T.Span.Span.kind N c.args.matrix.now c.args.cycle.now _ (Err f) c.args.matrix.now c.args.cycle.now
+          (c.in_err-check.ensures.refusal ∙ ap (checks_refusal g.T.Span.Span.kind N most_conditions) c.requires) (refusal_of f) refl refl refl);
       networks = λ N legal. (decided g.met.Span.Span.lawful N legal, cycle_no_plan g.met.Span.Span.lawful N legal);
     }
 
@@ -24,7 +24,7 @@ pub returns : goal.returns
 returns g c =
     let N = g.T.Source.means c.args.source.now in
     record {
-      tightened = after_passing g.Span.Span.kind N c.args.matrix.now c.args.cycle.now _ c.tighten-checked.result c.tighten-checked.new.matrix c.tighten-checked.new.cycle
-          (c.in_ok-check.ensures.refusal ∙ ap (checks_refusal g.Span.Span.kind N most_conditions) c.requires) c.tighten-checked.ensures;
+      tightened = after_passing g.T.Span.Span.kind N c.args.matrix.now c.args.cycle.now _ c.tighten_checked.result c.tighten_checked.new.matrix c.tighten_checked.new.cycle
+          (c.in_ok-check.ensures.refusal ∙ ap (checks_refusal g.T.Span.Span.kind N most_conditions) c.requires) c.tighten_checked.ensures;
       networks = λ N legal. (decided g.met.Span.Span.lawful N legal, cycle_no_plan g.met.Span.Span.lawful N legal);
     }

@@ -5,8 +5,8 @@ use Rattle.exports.specs.Meaning.{numbers_network}
 use Rattle.exports.proofs.Answering.{ok_grantable, granted_room}
 use Rattle.exports.proofs.calls.tighten_numbers.Goals as goal
 
-pub write-entries-requires : goal.write-entries-requires
-write-entries-requires g c =
+pub write_entries-requires : goal.write_entries-requires
+write_entries-requires g c =
     let P = g.S.Spelled.spelling in
     let w = P.width in
     let n = c.args.points in

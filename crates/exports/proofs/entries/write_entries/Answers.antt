@@ -3,8 +3,8 @@ use Rattle.std.proofs.lemmas.List.{get_or_default}
 use Rattle.exports.proofs.EntryWrites.{earlier_ends}
 use Rattle.exports.proofs.entries.write_entries.Goals as goal
 
-pub write-entry-requires : goal.write-entry-requires
-write-entry-requires g c =
+pub write_entry-requires : goal.write_entry-requires
+write_entry-requires g c =
     let w = g.S.Spelled.spelling.width in
     let le = earlier_ends c.loop-p.p c.args.entries w (omega arith) in
     (omega arith, omega arith)
@@ -13,7 +13,7 @@ pub loop-p-preserved : goal.loop-p-preserved
 loop-p-preserved g c =
     let w = g.S.Spelled.spelling.width in
     let inv = c.loop-p.invariant in
-    let e = c.write-entry.ensures in (
+    let e = c.write_entry.ensures in (
       below_more _ _ (λ q h. e.before q h ∙ inv.0 q h)
           (e.here ∙ c.index-memory-p.is ∙ get_or_default c.args.memory.now c.loop-p.p c.index-memory-p.result None (omega arith)),
       e.rest (c.args.entries * w) (earlier_ends c.loop-p.p c.args.entries w (omega arith)) ∙ inv.1,

@@ -10,5 +10,5 @@ pub loop-p-preserved : goal.loop-p-preserved
 loop-p-preserved c = (
   omega arith,
   omega arith,
-  over_more _ c.args.text.now _ c.loop-p.p (omega arith) (sym c.if-is-of.ensures) c.loop-p.invariant.2,
+  over_more _ c.args.text.now _ c.loop-p.p (omega arith) (sym c.if-is_of.ensures) c.loop-p.invariant.2,
 )

@@ -26,7 +26,7 @@ value-requires c =
 
 pub returns-in_err-n : goal.returns-in_err-n
 returns-in_err-n c =
-    let p = err_from_is_err_and c.from-residual.result c.from-residual.ensures.1 in
+    let p = err_from_is_err_and c.from_residual.result c.from_residual.ensures.1 in
     let g = number_piece c.next-x.ensures c.in-Number.w c.in-Number.is in
     rw (p.1, p.2) (record {
       behind = tt;
@@ -52,7 +52,7 @@ value-requires-2 c =
 
 pub returns-in_err-m : goal.returns-in_err-m
 returns-in_err-m c =
-    let p = err_from_is_err_and c.from-residual-in_err-m.result c.from-residual-in_err-m.ensures.1 in
+    let p = err_from_is_err_and c.from_residual-in_err-m.result c.from_residual-in_err-m.ensures.1 in
     rw (p.1, p.2) (record {
       behind = tt;
       small = tt;

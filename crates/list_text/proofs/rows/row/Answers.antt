@@ -4,7 +4,7 @@ use Rattle.list_text.proofs.rows.row.Goals as goal
 
 pub returns-in_err-t : goal.returns-in_err-t
 returns-in_err-t c =
-    let p = err_from_is_err_and c.from-residual-in_err-t.result c.from-residual-in_err-t.ensures.1 in
+    let p = err_from_is_err_and c.from_residual-in_err-t.result c.from_residual-in_err-t.ensures.1 in
     rw (p.1, p.2) (record {
       behind = tt;
       reads = λ k. stop (c.in_ok-i.ensures.reads _) (stop (c.in_ok-q.ensures.reads _) (stop (c.in_ok-j.ensures.reads _) (c.in_err-t.ensures.reads _)));
@@ -12,7 +12,7 @@ returns-in_err-t c =
 
 pub returns-in_err-u : goal.returns-in_err-u
 returns-in_err-u c =
-    let p = err_from_is_err_and c.from-residual-in_err-u.result c.from-residual-in_err-u.ensures.1 in
+    let p = err_from_is_err_and c.from_residual-in_err-u.result c.from_residual-in_err-u.ensures.1 in
     rw (p.1, p.2) (record {
       behind = tt;
       reads = λ k. stop (c.in_ok-i.ensures.reads _) (stop (c.in_ok-q.ensures.reads _) (stop (c.in_ok-j.ensures.reads _) (stop (c.in_ok-t.ensures.reads _) (c.in_err-u.ensures.reads _))));
@@ -20,7 +20,7 @@ returns-in_err-u c =
 
 pub returns-in_err-row : goal.returns-in_err-row
 returns-in_err-row c =
-    let p = err_from_is_err_and c.from-residual-in_err-row.result c.from-residual-in_err-row.ensures.1 in
+    let p = err_from_is_err_and c.from_residual-in_err-row.result c.from_residual-in_err-row.ensures.1 in
     rw (p.1, p.2) (record {
       behind = tt;
       reads = λ k. stop (c.in_ok-i.ensures.reads _) (stop (c.in_ok-q.ensures.reads _) (stop (c.in_ok-j.ensures.reads _) (stop (c.in_ok-t.ensures.reads _) (stop (c.in_ok-u.ensures.reads _) (c.in_err-row.ensures.reads _)))));
@@ -28,7 +28,7 @@ returns-in_err-row c =
 
 pub returns-in_err-after : goal.returns-in_err-after
 returns-in_err-after c =
-    let p = err_from_is_err_and c.from-residual-in_err-after.result c.from-residual-in_err-after.ensures.1 in
+    let p = err_from_is_err_and c.from_residual-in_err-after.result c.from_residual-in_err-after.ensures.1 in
     rw (p.1, p.2) (record {
       behind = tt;
       reads = λ k. stop (c.in_ok-i.ensures.reads _) (stop (c.in_ok-q.ensures.reads _) (stop (c.in_ok-j.ensures.reads _) (stop (c.in_ok-t.ensures.reads _) (stop (c.in_ok-u.ensures.reads _) (stop (c.in_ok-row.ensures.reads.2 _) (c.in_err-after.ensures.reads _))))));

@@ -18,44 +18,44 @@ loop-seen-init c = record {
   leads = λ n m. record { leads = refl };
 }
 
-pub returns-then-is-mark : goal.returns-then-is-mark
-returns-then-is-mark c = record {
+pub returns-then-is_mark : goal.returns-then-is_mark
+returns-then-is_mark c = record {
   behind = behind_behind c.loop-seen.invariant.behind (behind c.next-x.ensures);
   reads = (
     c.loop-seen.invariant.list,
     sym c.loop-seen.invariant.many,
     c.loop-seen.invariant.shows,
-    λ n m. then (c.loop-seen.invariant.leads n m) (rows_close c.next-x.ensures n m _ (c.is-mark.ensures.0 c.if-is-mark.true)),
+    λ n m. then (c.loop-seen.invariant.leads n m) (rows_close c.next-x.ensures n m _ (c.is_mark.ensures.0 c.if-is_mark.true)),
   );
 }
 
-pub returns-then-not-is-mark : goal.returns-then-not-is-mark
-returns-then-not-is-mark c = record {
+pub returns-then-not-is_mark : goal.returns-then-not-is_mark
+returns-then-not-is_mark c = record {
   behind = tt;
   reads = λ n m. stop (c.loop-seen.invariant.leads n m) (rows_fault c.next-x.ensures n m _
-      (λ e. both_ways _ c.if-is-mark.false (c.is-mark.ensures.1 e)) (λ e. both_ways _ c.if-not-is-mark.true (c.is-mark-in-loop-seen.ensures.1 e)));
+      (λ e. both_ways _ c.if-is_mark.false (c.is_mark.ensures.1 e)) (λ e. both_ways _ c.if-not-is_mark.true (c.is_mark-in-loop-seen.ensures.1 e)));
 }
 
 pub returns-in_err-q : goal.returns-in_err-q
 returns-in_err-q c =
-    let p = err_from_is_err_and c.from-residual.result c.from-residual.ensures.1 in
+    let p = err_from_is_err_and c.from_residual.result c.from_residual.ensures.1 in
     rw (p.1, p.2) (record {
       behind = tt;
-      reads = λ n m. stop (c.loop-seen.invariant.leads n m) (stop (rows_semicolon c.next-x.ensures n m _ (c.is-mark-in-loop-seen.ensures.0 c.if-not-is-mark.false)) (c.in_err-q.ensures.reads _));
+      reads = λ n m. stop (c.loop-seen.invariant.leads n m) (stop (rows_semicolon c.next-x.ensures n m _ (c.is_mark-in-loop-seen.ensures.0 c.if-not-is_mark.false)) (c.in_err-q.ensures.reads _));
     })
 
 pub returns-in_err-read : goal.returns-in_err-read
 returns-in_err-read c =
-    let p = err_from_is_err_and c.from-residual-in_err-read.result c.from-residual-in_err-read.ensures.1 in
+    let p = err_from_is_err_and c.from_residual-in_err-read.result c.from_residual-in_err-read.ensures.1 in
     rw (p.1, p.2) (record {
       behind = tt;
-      reads = λ n m. stop (c.loop-seen.invariant.leads n m) (stop (rows_semicolon c.next-x.ensures n m _ (c.is-mark-in-loop-seen.ensures.0 c.if-not-is-mark.false))
+      reads = λ n m. stop (c.loop-seen.invariant.leads n m) (stop (rows_semicolon c.next-x.ensures n m _ (c.is_mark-in-loop-seen.ensures.0 c.if-not-is_mark.false))
           (stop (c.in_ok-q.ensures.reads _) (c.in_err-read.ensures.reads (λ x. rows_more n m (c.loop-seen.invariant.list ++ (x ∷ []))))));
     })
 
 pub loop-seen-preserved : goal.loop-seen-preserved
 loop-seen-preserved c =
-    let is = c.is-mark-in-loop-seen.ensures.0 c.if-not-is-mark.false in
+    let is = c.is_mark-in-loop-seen.ensures.0 c.if-not-is_mark.false in
     let r = c.in_ok-read.ensures.reads in
     let b = behind_behind c.in_ok-q.ensures.behind c.in_ok-read.ensures.behind in
     record {
@@ -73,6 +73,6 @@ loop-seen-preserved c =
 
 pub loop-seen-smaller : goal.loop-seen-smaller
 loop-seen-smaller c =
-    let is = c.is-mark-in-loop-seen.ensures.0 c.if-not-is-mark.false in
+    let is = c.is_mark-in-loop-seen.ensures.0 c.if-not-is_mark.false in
     let b = behind_behind c.in_ok-q.ensures.behind c.in_ok-read.ensures.behind in
     omega (arith, mark_onward c.next-x.ensures _ is, b.onward, b.within)

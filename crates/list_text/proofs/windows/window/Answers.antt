@@ -11,17 +11,17 @@ returns c = record {
 
 pub returns-in_err-low : goal.returns-in_err-low
 returns-in_err-low c =
-    let p = err_from_is_err_and c.from-residual.result c.from-residual.ensures.1 in
+    let p = err_from_is_err_and c.from_residual.result c.from_residual.ensures.1 in
     rw (p.1, p.2) (record { behind = tt; reads = λ ws k. c.in_err-low.ensures.reads _ _ })
 
 pub returns-in_err-q : goal.returns-in_err-q
 returns-in_err-q c =
-    let p = err_from_is_err_and c.from-residual-in_err-q.result c.from-residual-in_err-q.ensures.1 in
+    let p = err_from_is_err_and c.from_residual-in_err-q.result c.from_residual-in_err-q.ensures.1 in
     rw (p.1, p.2) (record { behind = tt; reads = λ ws k. stop (c.in_ok-low.ensures.reads _ _) (c.in_err-q.ensures.reads _) })
 
 pub returns-in_err-high : goal.returns-in_err-high
 returns-in_err-high c =
-    let p = err_from_is_err_and c.from-residual-in_err-high.result c.from-residual-in_err-high.ensures.1 in
+    let p = err_from_is_err_and c.from_residual-in_err-high.result c.from_residual-in_err-high.ensures.1 in
     rw (p.1, p.2) (record {
       behind = tt;
       reads = λ ws k. stop (c.in_ok-low.ensures.reads _ _) (stop (c.in_ok-q.ensures.reads _) (c.in_err-high.ensures.reads _ _));
@@ -29,7 +29,7 @@ returns-in_err-high c =
 
 pub returns-in_err-after : goal.returns-in_err-after
 returns-in_err-after c =
-    let p = err_from_is_err_and c.from-residual-in_err-after.result c.from-residual-in_err-after.ensures.1 in
+    let p = err_from_is_err_and c.from_residual-in_err-after.result c.from_residual-in_err-after.ensures.1 in
     rw (p.1, p.2) (record {
       behind = tt;
       reads = λ ws k. stop (c.in_ok-low.ensures.reads _ _) (stop (c.in_ok-q.ensures.reads _) (stop (c.in_ok-high.ensures.reads _ _) (c.in_err-after.ensures.reads _)));

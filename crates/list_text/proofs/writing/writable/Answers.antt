@@ -6,13 +6,13 @@ use Rattle.list_text.specs.Dates.{TellsWritable}
 use Rattle.list_text.proofs.Writes.{text_writable, small_at}
 use Rattle.list_text.proofs.writing.writable.Goals as goal
 
-pub returns-then-unsigned-abs-gt-GREATEST : goal.returns-then-unsigned-abs-gt-GREATEST
-returns-then-unsigned-abs-gt-GREATEST c = λ t x.
+pub returns-then-unsigned_abs-gt-GREATEST : goal.returns-then-unsigned_abs-gt-GREATEST
+returns-then-unsigned_abs-gt-GREATEST c = λ t x.
     let i = c.loop-i.i in
     let ds = c.args.dates.now in
     let small = small_at ds i (record { count = pos 0 }) c.loop-i.invariant.0 c.loop-i-test.true (text_writable ds t x) in
-    let size : c.unsigned-abs.result ≡ nat_abs (get_or ds i (record { count = pos 0 })).count = search rules in
-    let more = c.if-unsigned-abs-gt-GREATEST.true in
+    let size : c.unsigned_abs.result ≡ nat_abs (get_or ds i (record { count = pos 0 })).count = search rules in
+    let more = c.if-unsigned_abs-gt-GREATEST.true in
     omega arith
 
 pub loop-i-init : goal.loop-i-init
@@ -21,8 +21,8 @@ loop-i-init c = (omega arith, λ k one lt. absurd (omega arith))
 pub loop-i-preserved : goal.loop-i-preserved
 loop-i-preserved c =
     let i = c.loop-i.i in
-    let size : c.unsigned-abs.result ≡ nat_abs (get_or c.args.dates.now i (record { count = pos 0 })).count = search rules in
-    let few = c.if-unsigned-abs-gt-GREATEST.false in (
+    let size : c.unsigned_abs.result ≡ nat_abs (get_or c.args.dates.now i (record { count = pos 0 })).count = search rules in
+    let few = c.if-unsigned_abs-gt-GREATEST.false in (
       omega arith,
       λ k one lt. elim (cases_lt k i) [
         | inl h ↦ c.loop-i.invariant.1 k one h

@@ -4,5 +4,5 @@ use Rattle.schedules.proofs.choices.choice_places.Goals as goal
 
 pub returns : goal.returns
 returns g c =
-    places_found (g.T.Source.means c.args.source.now) c.requires _ _ _ _ _ _ _ c.next-choice-a.ensures c.next-choice-b.ensures
-    c.next-choice-c.ensures c.next-choice-d.ensures c.next-choice-e.ensures c.next-choice-f.ensures c.conditions.ensures
+    places_found (g.T.Source.means c.args.source.now) c.requires _ _ _ _ _ _ _ c.next_choice-a.ensures c.next_choice-b.ensures
+    c.next_choice-c.ensures c.next_choice-d.ensures c.next_choice-e.ensures c.next_choice-f.ensures c.conditions.ensures

@@ -24,14 +24,14 @@ overflow_cast-chosen g c =
 
 pub close-requires : goal.close-requires
 close-requires g c =
-    let K = g.Span.Span.kind in
+    let K = g.T.Span.Span.kind in
     let legal = legal_with _ _ _ _ c.requires.upto c.requires.turn (omega arith) g.met.Span.Span.lawful c.requires.legal in
     let both = ap (λ (M : Network g.row.T-Span.Denot). M.points * M.points) c.over.ensures in
     record { legal = subst (Legal K) (sym c.over.ensures) legal; room = (omega arith, (omega arith, omega arith)) }
 
 pub returns-in-None : goal.returns-in-None
 returns-in-None g c =
-    let K = g.Span.Span.kind in
+    let K = g.T.Span.Span.kind in
     let closes = subst (λ (M : Network g.row.T-Span.Denot). Closes K M c.close.new.matrix) c.over.ensures c.in-None.ensures.ends in
     record {
       goes = goes_on _ _ c.requires.places.0 _ c.requires.places.1 _ _ c.requires.upto c.requires.turn _ (omega arith) closes;
@@ -41,7 +41,7 @@ returns-in-None g c =
 
 pub returns-in-Some : goal.returns-in-Some
 returns-in-Some g c =
-    let K = g.Span.Span.kind in
+    let K = g.T.Span.Span.kind in
     let none = subst (λ (M : Network g.row.T-Span.Denot). HasPlan K (hulls M) → ⊥) c.over.ensures c.in-Some.ensures.ends.no_plan in
     record {
       goes = ruled_out _ _ _ _ c.requires.upto c.requires.turn (omega arith) g.met.Span.Span.lawful c.requires.legal none;
