@@ -36,7 +36,7 @@ returns-then-is_mark-2 c = record {
   behind = behind_behind c.loop-w.invariant.behind (behind_behind c.in_ok-w.ensures.behind (behind c.next-y.ensures));
   reads = (
     c.loop-w.invariant.windows ++ (c.in_ok-w.w ∷ []),
-    shows_more _ _ _ _ _ _ _ c.loop-w.invariant.shows c.one_more_row.ensures,
+    shows_more _ _ _ _ _ _ _ c.loop-w.invariant.shows c.one_more-row.ensures,
     λ k. then (c.loop-w.invariant.leads k) (then (c.in_ok-w.ensures.reads c.loop-w.invariant.windows k)
         (more_close c.next-y.ensures _ k (c.is_mark-in-loop-w.ensures.0 c.if-is_mark-2.true))),
   );
@@ -72,9 +72,9 @@ loop-w-preserved c =
     let is = c.is_mark-in-loop-w-2.ensures.0 c.if-not-is_mark-2.false in
     record {
       behind = behind_behind c.loop-w.invariant.behind (behind_behind c.in_ok-w.ensures.behind (behind_behind (behind c.next-y.ensures) c.in_ok-p.ensures.behind));
-      few = omega (arith, c.loop-w.invariant.few, c.in_ok-w.ensures.behind.onward, mark_onward c.next-y.ensures _ is, c.in_ok-p.ensures.behind.onward, c.one_more_row.ensures.count);
+      few = omega (arith, c.loop-w.invariant.few, c.in_ok-w.ensures.behind.onward, mark_onward c.next-y.ensures _ is, c.in_ok-p.ensures.behind.onward, c.one_more-row.ensures.count);
       windows = c.loop-w.invariant.windows ++ (c.in_ok-w.w ∷ []);
-      shows = shows_more _ _ _ _ _ _ _ c.loop-w.invariant.shows c.one_more_row.ensures;
+      shows = shows_more _ _ _ _ _ _ _ c.loop-w.invariant.shows c.one_more-row.ensures;
       leads = λ k. then (c.loop-w.invariant.leads k) (then (c.in_ok-w.ensures.reads c.loop-w.invariant.windows k)
           (then (more_semicolon c.next-y.ensures _ k is) (c.in_ok-p.ensures.reads _)));
     }
