@@ -9,7 +9,7 @@ loop-k-init g c =
     let N = g.T.Source.means c.args.source.now in
     let n = c.args.n in
     let filled = c.fill_edges.ensures in (
-      standing_begins g.met.Span.Span.lawful N c.requires.legal (numbers n c.fill_edges.new.codes) (table n c.fill_edges.new.matrix) (numbers n c.fill_edges.new.middles)
+      standing_begins g.met.T.Span.Span.lawful N c.requires.legal (numbers n c.fill_edges.new.codes) (table n c.fill_edges.new.matrix) (numbers n c.fill_edges.new.middles)
           filled.matrix filled.codes filled.middles,
       refl,
     )
@@ -22,7 +22,7 @@ returns-in-Some g c =
     let found = c.in-Some.ensures in
     let below : c.loop-k.k < N.points = omega arith in
     record {
-      ends = (standing_refuses g.met.Span.Span.lawful N c.requires.legal (numbers n c.fill_edges.new.codes) (table n c.loop-k.matrix) (numbers n c.loop-k.middles)
+      ends = (standing_refuses g.met.T.Span.Span.lawful N c.requires.legal (numbers n c.fill_edges.new.codes) (table n c.loop-k.matrix) (numbers n c.loop-k.middles)
           c.loop-k.k c.loop-k.invariant.0 below c.in-Some.i found.0 found.1);
       rest = (c.loop-k.invariant.1 ∙ c.fill_edges.ensures.rest);
     }
@@ -43,7 +43,7 @@ loop-k-preserved g c =
     let n = c.args.n in
     let relaxed = c.relax_stage.ensures in
     let below : c.loop-k.k < N.points = omega arith in (
-      standing_steps g.met.Span.Span.lawful N c.requires.legal (numbers n c.fill_edges.new.codes) (table n c.loop-k.matrix) (numbers n c.loop-k.middles)
+      standing_steps g.met.T.Span.Span.lawful N c.requires.legal (numbers n c.fill_edges.new.codes) (table n c.loop-k.matrix) (numbers n c.loop-k.middles)
           c.loop-k.k c.loop-k.invariant.0 below _ _ c.in_default.ensures relaxed.matrix relaxed.middles,
       relaxed.rest ∙ c.loop-k.invariant.1,
     )
@@ -55,7 +55,7 @@ returns g c =
     let is : n ≡ N.points = c.requires.points in
     let all : c.loop-k.k ≡ N.points = omega arith in
     record {
-      ends = standing_ends g.met.Span.Span.lawful N c.requires.legal (numbers n c.fill_edges.new.codes) n c.loop-k.k c.loop-k.matrix (numbers n c.loop-k.middles)
+      ends = standing_ends g.met.T.Span.Span.lawful N c.requires.legal (numbers n c.fill_edges.new.codes) n c.loop-k.k c.loop-k.matrix (numbers n c.loop-k.middles)
           is all c.loop-k.invariant.0;
       rest = (c.loop-k.invariant.1 ∙ c.fill_edges.ensures.rest);
     }

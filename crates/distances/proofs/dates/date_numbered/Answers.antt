@@ -9,13 +9,13 @@ date_all-requires g c =
     record {
       points = omega (arith, c.requires.legal.few_points);
       room = omega arith;
-      done = numbered_done g.met.Span.Span.lawful N c.requires.legal c.args.matrix.now c.requires.closed c.args.n c.requires.points;
+      done = numbered_done g.met.T.Span.Span.lawful N c.requires.legal c.args.matrix.now c.requires.closed c.args.n c.requires.points;
     }
 
 pub returns : goal.returns
 returns g c =
     let N = g.T.Source.means c.args.source.now in
-    let both = numbered_dates g.met.Span.Span.lawful N c.requires.legal c.args.matrix.now c.requires.closed c.args.n c.requires.points
+    let both = numbered_dates g.met.T.Span.Span.lawful N c.requires.legal c.args.matrix.now c.requires.closed c.args.n c.requires.points
     (take c.args.n c.date_all.new.dates) c.date_all.ensures.dated in
     record {
       dated = both.0;

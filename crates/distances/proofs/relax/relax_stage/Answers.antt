@@ -22,17 +22,17 @@ loop-i-preserved g c =
     } in
     elim c.if-i-k.branch [
       | then-i-k+in-Some w ↦
-          simp (w.matrix_is, w.middles-is) (
+          simp (w.matrix-is, w.middles-is) (
             next_matrix laws n k d t w.relax_row.new.matrix w.relax_row.ensures.matrix,
             next_middles laws n k d t m c.loop-i.middles w.relax_row.new.middles inv.1 w.relax_row.ensures.middles,
             w.relax_row.ensures.rest ∙ inv.2,
           )
       | then-i-k+in_default w ↦
           let e = sym w.in_default.ensures in
-          simp (w.matrix_is, w.middles-is)
+          simp (w.matrix-is, w.middles-is)
           (pass_matrix laws n k d t e, pass_middles laws n k d t m c.loop-i.middles e inv.1, inv.2)
       | else-i-k w ↦
-          simp (w.matrix_is, w.middles-is)
+          simp (w.matrix-is, w.middles-is)
           (same_matrix laws n k d t w.if-i-k.false, same_middles laws n k d t m c.loop-i.middles w.if-i-k.false inv.1, inv.2)
     ]
 

@@ -36,14 +36,8 @@ unfold-first-requires t c =
     let falls = subst (λ (w : Way). mid w.from w.to < mid i j) (sym c.up_to.ensures) (first_falls n mid codes i j _ c.requires.way m over) in (
       omega (arith, falls),
       (
-        omega arith,
-        (
-          omega arith,
-          (
-            omega arith,
-            subst (λ (w : Way). Unfoldable n mid codes w.from w.to (length c.args.out.now)) (sym c.up_to.ensures) (first_half n mid codes i j _ c.requires.way m over),
-          ),
-        ),
+        c.requires.room,
+        subst (λ (w : Way). Unfoldable n mid codes w.from w.to (length c.args.out.now)) (sym c.up_to.ensures) (first_half n mid codes i j _ c.requires.way m over),
       ),
     )
 
@@ -61,16 +55,10 @@ unfold-second-requires t c =
     let falls = subst (λ (w : Way). mid w.from w.to < mid i j) (sym c.on_from.ensures) (second_falls n mid codes i j _ c.requires.way m over) in (
       omega (arith, falls),
       (
-        omega arith,
-        (
-          omega arith,
-          (
-            omega arith,
-            subst (λ (w : Way). Unfoldable n mid codes w.from w.to (length (take (length half - c.unfold-first.result) (drop c.unfold-first.result half)))) (sym c.on_from.ensures)
-                (second_half n mid codes i j (length c.args.out.now) c.requires.way m over c.args.out.now half c.unfold-first.result first _
-                (behind_length half c.unfold-first.result _ (omega arith))),
-          ),
-        ),
+        c.requires.room,
+        subst (λ (w : Way). Unfoldable n mid codes w.from w.to (length (take (length half - c.unfold-first.result) (drop c.unfold-first.result half)))) (sym c.on_from.ensures)
+            (second_half n mid codes i j (length c.args.out.now) c.requires.way m over c.args.out.now half c.unfold-first.result first _
+            (behind_length half c.unfold-first.result _ (omega arith))),
       ),
     )
 

@@ -17,7 +17,7 @@ returns-in_err-check g c =
     record {
       tightened = rw (p.1, p.2) (after_refusal g.T.Span.Span.kind N c.args.matrix.now c.args.cycle.now _ (Err f) c.args.matrix.now c.args.cycle.now
           (c.in_err-check.ensures.refusal ∙ ap (checks_refusal g.T.Span.Span.kind N most_conditions) c.requires) (refusal_of f) refl refl refl);
-      networks = λ N legal. (decided g.met.Span.Span.lawful N legal, cycle_no_plan g.met.Span.Span.lawful N legal);
+      networks = λ N legal. (decided g.met.T.Span.Span.lawful N legal, cycle_no_plan g.met.T.Span.Span.lawful N legal);
     }
 
 pub returns : goal.returns
@@ -26,5 +26,5 @@ returns g c =
     record {
       tightened = after_passing g.T.Span.Span.kind N c.args.matrix.now c.args.cycle.now _ c.tighten_checked.result c.tighten_checked.new.matrix c.tighten_checked.new.cycle
           (c.in_ok-check.ensures.refusal ∙ ap (checks_refusal g.T.Span.Span.kind N most_conditions) c.requires) c.tighten_checked.ensures;
-      networks = λ N legal. (decided g.met.Span.Span.lawful N legal, cycle_no_plan g.met.Span.Span.lawful N legal);
+      networks = λ N legal. (decided g.met.T.Span.Span.lawful N legal, cycle_no_plan g.met.T.Span.Span.lawful N legal);
     }

@@ -25,7 +25,7 @@ overflow_cast-chosen g c =
 pub close-requires : goal.close-requires
 close-requires g c =
     let K = g.T.Span.Span.kind in
-    let legal = legal_with _ _ _ _ c.requires.upto c.requires.turn (omega arith) g.met.Span.Span.lawful c.requires.legal in
+    let legal = legal_with _ _ _ _ c.requires.upto c.requires.turn (omega arith) g.met.T.Span.Span.lawful c.requires.legal in
     let both = ap (λ (M : Network g.row.T-Span.Denot). M.points * M.points) c.over.ensures in
     record { legal = subst (Legal K) (sym c.over.ensures) legal; room = (omega arith, (omega arith, omega arith)) }
 
@@ -44,7 +44,7 @@ returns-in-Some g c =
     let K = g.T.Span.Span.kind in
     let none = subst (λ (M : Network g.row.T-Span.Denot). HasPlan K (hulls M) → ⊥) c.over.ensures c.in-Some.ensures.ends.no_plan in
     record {
-      goes = ruled_out _ _ _ _ c.requires.upto c.requires.turn (omega arith) g.met.Span.Span.lawful c.requires.legal none;
+      goes = ruled_out _ _ _ _ c.requires.upto c.requires.turn (omega arith) g.met.T.Span.Span.lawful c.requires.legal none;
       rest = subst (λ (M : Network g.row.T-Span.Denot). Rest M.points c.args.matrix.now c.close.new.matrix)
           c.over.ensures c.close.ensures.rest;
     }
