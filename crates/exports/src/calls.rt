@@ -24,7 +24,7 @@ pub(crate) fn tighten_numbers<S: Spelled>(
     detail: &mut [usize],
 ) -> usize
     requires { length memory.old ≡ most_entries }
-    ensures { Answered S.Span.kind spelling points conditions.now matrix.old present.old cycle.old detail.old
+    ensures { Answered S.Span.kind S.Spelled.spelling points conditions.now matrix.old present.old cycle.old detail.old
         result matrix.new present.new cycle.new detail.new }
 {
     if conditions.len() % of_condition::<S>() != 0 || detail.len() == 0 {
@@ -78,7 +78,7 @@ pub(crate) fn close_numbers<S: Spelled>(
     cycle: &mut [u16],
     times: usize,
 ) -> usize
-    ensures { AllOrNone S.Span.kind (numbers_network spelling points conditions.now) (length memory.old) (length cycle.old) times result }
+    ensures { AllOrNone S.Span.kind (numbers_network S.Spelled.spelling points conditions.now) (length memory.old) (length cycle.old) times result }
 {
     let source = Numbers::<S> {
         points,

@@ -6,10 +6,10 @@ use crate::spelled::Spelled;
 
 // Entry p; where it is missing, its numbers stay as they were.
 fn write_entry<S: Spelled>(entry: Option<S>, p: usize, matrix: &mut [i64], present: &mut [u8])
-    requires { (p * spelling.width + spelling.width ≤ length matrix.old) × (p < length present.old) }
-    ensures here { entry_at spelling matrix.new present.new p ≡ entry }
-    ensures before { (q : ℕ) → q < p → entry_at spelling matrix.new present.new q ≡ entry_at spelling matrix.old present.old q }
-    ensures rest { (m : ℕ) → p * spelling.width + spelling.width ≤ m → drop m matrix.new ≡ drop m matrix.old }
+    requires { (p * S.Spelled.spelling.width + S.Spelled.spelling.width ≤ length matrix.old) × (p < length present.old) }
+    ensures here { entry_at S.Spelled.spelling matrix.new present.new p ≡ entry }
+    ensures before { (q : ℕ) → q < p → entry_at S.Spelled.spelling matrix.new present.new q ≡ entry_at S.Spelled.spelling matrix.old present.old q }
+    ensures rest { (m : ℕ) → p * S.Spelled.spelling.width + S.Spelled.spelling.width ≤ m → drop m matrix.new ≡ drop m matrix.old }
     ensures marks { (m : ℕ) → p < m → drop m present.new ≡ drop m present.old }
 {
     match entry {
@@ -28,9 +28,9 @@ pub(crate) fn write_entries<S: Spelled>(
     matrix: &mut [i64],
     present: &mut [u8],
 )
-    requires { (entries ≤ length memory.now) × ((entries * spelling.width ≤ length matrix.old) × (entries ≤ length present.old)) }
-    ensures entries { (p : ℕ) → p < entries → entry_at spelling matrix.new present.new p ≡ slice_index_or memory.now p None }
-    ensures rest { drop (entries * spelling.width) matrix.new ≡ drop (entries * spelling.width) matrix.old }
+    requires { (entries ≤ length memory.now) × ((entries * S.Spelled.spelling.width ≤ length matrix.old) × (entries ≤ length present.old)) }
+    ensures entries { (p : ℕ) → p < entries → entry_at S.Spelled.spelling matrix.new present.new p ≡ slice_index_or memory.now p None }
+    ensures rest { drop (entries * S.Spelled.spelling.width) matrix.new ≡ drop (entries * S.Spelled.spelling.width) matrix.old }
     ensures marks { drop entries present.new ≡ drop entries present.old }
 {
     for p in 0..entries {

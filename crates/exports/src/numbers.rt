@@ -21,8 +21,8 @@ fn point(number: i64) -> usize
 
 // The end whose mark stands at `at`.
 fn end<S: Spelled>(numbers: &[i64], at: usize) -> Option<S>
-    requires { at + 1 + spelling.width ≤ length numbers.now }
-    ensures { result ≡ end_at spelling numbers.now at }
+    requires { at + 1 + S.Spelled.spelling.width ≤ length numbers.now }
+    ensures { result ≡ end_at S.Spelled.spelling numbers.now at }
 {
     if 0 < numbers[at] {
         Some(S::read(numbers, at + 1))
@@ -33,7 +33,7 @@ fn end<S: Spelled>(numbers: &[i64], at: usize) -> Option<S>
 
 // The numbers of one condition: from, to, and two ends with their marks.
 pub(crate) fn of_condition<S: Spelled>() -> usize
-    ensures { (result ≡ condition_numbers spelling) × ((0 < result) × (result ≤ 8)) }
+    ensures { (result ≡ condition_numbers S.Spelled.spelling) × ((0 < result) × (result ≤ 8)) }
 {
     4 + 2 * S::width()
 }
@@ -48,15 +48,15 @@ pub(crate) struct Numbers<'a, S> {
 impl<S: Spelled> Numbers<'_, S> {
     // How many conditions there are; what is left over means none.
     fn count(&self) -> usize
-        ensures { result ≡ length (numbers_network spelling self.now.points self.now.numbers.now).conditions }
+        ensures { result ≡ length (numbers_network S.Spelled.spelling self.now.points self.now.numbers.now).conditions }
     {
         self.numbers.len() / of_condition::<S>()
     }
 
     // Where condition k begins, if it is there.
     fn place(&self, k: usize) -> Option<usize>
-        ensures { MatchOption result (Absent spelling self.now.points self.now.numbers.now k)
-            (λ at. Begins spelling self.now.points self.now.numbers.now k at) }
+        ensures { MatchOption result (Absent S.Spelled.spelling self.now.points self.now.numbers.now k)
+            (λ at. Begins S.Spelled.spelling self.now.points self.now.numbers.now k at) }
     {
         if k < self.count() {
             Some(k * of_condition::<S>())

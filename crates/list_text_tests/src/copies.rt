@@ -2,6 +2,8 @@
 use list_text::{FromText, ListText, write_dates};
 use networks::Row;
 use spans::Minutes;
+use std::alloc::Global;
+use std::process::Abort;
 use std::test::*;
 
 const THREE: &str =
@@ -81,22 +83,28 @@ fn fills_the_room(rt: HostRuntime) -> Result<(), Fail> {
     Ok(())
 }
 
-fn check_written(rt: HostRuntime, dates: &[Minutes], expected: &str) -> Result<(), Fail> {
-    let Some(text) = write_dates(rt.alloc(), dates)? else {
-        assert!(false);
+fn check_written(
+    rt: &impl Abort,
+    alloc: Global,
+    dates: &[Minutes],
+    expected: &str,
+) -> Result<(), Fail> {
+    let Some(text) = write_dates(alloc, dates)? else {
+        assert!(rt; false);
         return Ok(());
     };
-    assert_eq!(text.as_str(), expected);
+    assert_eq!(rt; text.as_str(), expected);
     Ok(())
 }
 
 // No blank, no needless zero, and a minus only below zero.
 #[test]
 fn writes(rt: HostRuntime) -> Result<(), Fail> {
-    check_written(rt, &[], "[(0,0,[])]")?;
-    check_written(rt, &[minutes(0)], "[(1,1,[])]")?;
+    check_written(&rt, rt.alloc(), &[], "[(0,0,[])]")?;
+    check_written(&rt, rt.alloc(), &[minutes(0)], "[(1,1,[])]")?;
     check_written(
-        rt,
+        &rt,
+        rt.alloc(),
         &[
             minutes(0),
             minutes(5),
@@ -112,21 +120,18 @@ fn writes(rt: HostRuntime) -> Result<(), Fail> {
 #[test]
 fn writes_no_long_date(rt: HostRuntime) -> Result<(), Fail> {
     for date in [1000000000000, -1000000000000, i64::MIN] {
-        match write_dates(rt.alloc(), &[minutes(0), minutes(date)])? {
-            Some(_) => {
-                assert!(rt; false);
-                return Ok(())
-            },
-            None => {}
-        }
+        let text = write_dates(rt.alloc(), &[minutes(0), minutes(date)])?;
+        assert!(rt; text.is_none());
     }
     check_written(
-        rt,
+        &rt,
+        rt.alloc(),
         &[minutes(i64::MIN), minutes(5)],
         "[(2,2,[]);(0,1,[(E(5),E(5))])]",
     )?;
     check_written(
-        rt,
+        &rt,
+        rt.alloc(),
         &[minutes(0), minutes(-999999999999)],
         "[(2,2,[]);(0,1,[(E(-999999999999),E(-999999999999))])]",
     )

@@ -4,5 +4,5 @@ use Rattle.exports.proofs.calls.count_granted.Given as goal
 
 abbrev pub invariant-loop-i : goal.invariant-loop-i
 invariant-loop-i g l =
-    (l.granted ≤ l.-i)
-    × AllOrNone g.row.T-Span-Span.kind (g.T.Source.means l.source) (length l.initial.memory) (length l.initial.cycle) l.-i l.granted
+    (l.granted ≤ l._i)
+    × AllOrNone g.T.Span.Span.kind (g.T.Source.means l.source) (length l.initial.memory) (length l.initial.cycle) l._i l.granted
