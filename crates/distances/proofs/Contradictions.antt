@@ -1,5 +1,5 @@
 -- The cycle that closing found, as it stands in memory; and what tighten answers, by what the checks say. Assumes nothing.
-use Rattle.std.proofs.Common.{◌≡◌, ℕ, ◌+◌, ◌*◌, ◌<◌, ◌≤◌, List, [], ◌∷◌, ◌++◌, length, take, drop, replicate, Some, None, Option, Result, sym, refl, ap, ◌∙◌, subst, arith, length-append, take_at, drop_at}
+use Rattle.std.proofs.Common.{◌≡◌, ℕ, ◌*◌, ◌≤◌, List, [], ◌∷◌, ◌++◌, drop, replicate, Some, None, Option, Result, sym, ap, ◌∙◌, subst, arith, length-append}
 use Rattle.std.proofs.lemmas.Nat.{mul-le}
 use Rattle.std.proofs.lemmas.List.{length-replicate}
 use Rattle.spans.specs.Kind.{Kind}
@@ -9,13 +9,12 @@ use Rattle.networks.specs.Network.{Network}
 use Rattle.networks.specs.Legal.{Legal}
 use Rattle.networks.specs.Refusal.{Refusal}
 use Rattle.networks.specs.Faults.{refusal_in}
-use Rattle.distances.specs.Graph.{NegativeCycle}
 use Rattle.distances.specs.Table.{Middles}
 use Rattle.distances.specs.Matrix.{numbers, Rest}
-use Rattle.distances.specs.Memory.{put_first, blanked}
-use Rattle.distances.specs.Unfolding.{Unfolds, CycleWritten}
-use Rattle.distances.specs.Closing.{Closes, CannotClose}
-use Rattle.distances.specs.Tightening.{RefusedAtOnce, Tight, Contradicted, Ends, AfterChecks}
+use Rattle.distances.specs.Memory.{blanked}
+use Rattle.distances.specs.Unfolding.{CycleWritten}
+use Rattle.distances.specs.Closing.{CannotClose}
+use Rattle.distances.specs.Tightening.{Contradicted, Ends, AfterChecks}
 
 pub entries_few : (n : ℕ) → n ≤ most_points → n * n ≤ 2304
 entries_few n h = mul-le n n 48 48 h h

@@ -1,12 +1,12 @@
 -- The lemma about networks: the stages run through, without any call, to a cycle below zero or to least totals. Assumes nothing.
-use Rattle.std.proofs.Common.{◌≡◌, ℕ, zero, suc, ◌+◌, ◌*◌, ◌<◌, ◌≤◌, Bool, true, false, cond, ◌⊎◌, List, [], ◌∷◌, ◌++◌, length, Some, None, Option, sym, refl, ap, ◌∙◌, subst, inl, inr, arith}
+use Rattle.std.proofs.Common.{◌≡◌, ℕ, zero, suc, ◌+◌, ◌*◌, ◌<◌, ◌≤◌, Bool, true, false, ◌⊎◌, List, [], ◌∷◌, ◌++◌, length, Some, None, Option, sym, refl, ap, subst, inl, inr, arith}
 use native.Mathlib.Decide.{ℕ_discrete}
 use Rattle.std.proofs.lemmas.Bool.{cases_Bool}
 use Rattle.spans.specs.Kind.{Kind, Laws, reach, ◌≤⟨◌⟩◌}
 use Rattle.spans.specs.Sums.{◌⊕⟨◌⟩◌}
 use Rattle.spans.specs.Order.{le_trans, le_antisym}
 use Rattle.spans.proofs.Group.{sum_some, le_plus_left}
-use Rattle.networks.specs.Limits.{most_points, largest_end, largest_date}
+use Rattle.networks.specs.Limits.{largest_end, largest_date}
 use Rattle.networks.specs.Network.{Network}
 use Rattle.networks.specs.Hull.{hulls}
 use Rattle.networks.specs.Plan.{date, HighKept, Plan, HasPlan}

@@ -1,5 +1,5 @@
 -- How closing ends, from what stands after its stages. Assumes nothing.
-use Rattle.std.proofs.Common.{◌≡◌, ℕ, ◌+◌, ◌*◌, ◌<◌, ◌≤◌, true, false, ◌⊎◌, List, length, Some, None, Option, sym, refl, ◌∙◌, subst, inl, inr, arith}
+use Rattle.std.proofs.Common.{◌≡◌, ℕ, ◌+◌, ◌<◌, ◌≤◌, true, false, ◌⊎◌, List, length, Some, None, Option, sym, refl, ◌∙◌, subst, inl, inr, arith}
 use mathlib.Core.Path.{fun_ext}
 use native.Mathlib.Decide.{dec_lt}
 use Rattle.spans.specs.Kind.{Kind, Laws}
@@ -15,7 +15,7 @@ use Rattle.distances.specs.Table.{Table, Middles, AtMost, stage, stage_middles, 
 use Rattle.distances.specs.Edges.{least_edge}
 use Rattle.distances.specs.Begun.{begun}
 use Rattle.distances.specs.Matrix.{table}
-use Rattle.distances.specs.Closing.{Closes, IsClosingEdge, CannotClose}
+use Rattle.distances.specs.Closing.{Closes, CannotClose}
 use Rattle.distances.proofs.Ways.{a_way}
 use Rattle.distances.proofs.Matrices.{square_inside, square_outside}
 use Rattle.distances.proofs.OneDating.{rule_same}

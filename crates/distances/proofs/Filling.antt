@@ -5,7 +5,7 @@ use Rattle.std.proofs.lemmas.Bool.{ne_eqb}
 use Rattle.spans.specs.Kind.{Kind}
 use Rattle.networks.specs.declared.window.Window.{Window}
 use Rattle.networks.specs.Network.{Condition, Network, condition_at, window_of}
-use Rattle.networks.specs.Hull.{hull, hulls}
+use Rattle.networks.specs.Hull.{hulls}
 use Rattle.layers.proofs.Hulls.{hull_at}
 use Rattle.distances.specs.Begun.{begun, Filled}
 use Rattle.distances.specs.Edges.{Coded, coded, weight, only_at, lesser, least_edge}

@@ -2,7 +2,7 @@
 --     Furthest before at From m x    x is offered below m and before no offer there
 --     SoFar before at From m o      o is the furthest below m, or None where no point there has an entry
 -- `at q` is the entry of q, and `From q x` says that q offers x.
-use Rattle.std.proofs.Common.{◌≡◌, ℕ, zero, suc, ◌+◌, ◌<◌, Bool, true, false, cond, Some, None, Option, sym, refl, ◌∙◌, subst, inl, inr, add-one, arith, below_more, MatchOption}
+use Rattle.std.proofs.Common.{◌≡◌, ℕ, zero, suc, ◌+◌, ◌<◌, Bool, true, false, cond, Some, None, Option, refl, ◌∙◌, subst, inl, inr, add-one, arith, below_more, MatchOption}
 use Rattle.std.specs.Cmp.{IsStrictWeakOrder}
 use Rattle.std.proofs.lemmas.Bool.{cases_Bool}
 use Rattle.distances.specs.Steps.{further}

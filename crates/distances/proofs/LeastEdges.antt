@@ -1,8 +1,8 @@
 -- The least edge between two points is an edge, and no edge between them is below it. Assumes nothing.
-use Rattle.std.proofs.Common.{◌≡◌, ℕ, zero, suc, ◌+◌, ◌*◌, ◌<◌, ◌≤◌, Bool, true, false, cond, eqb, ◌⊎◌, length, Some, None, Option, sym, refl, ap, ◌∙◌, subst, inl, inr, arith}
+use Rattle.std.proofs.Common.{◌≡◌, ℕ, zero, suc, ◌+◌, ◌*◌, ◌<◌, ◌≤◌, Bool, true, false, cond, eqb, ◌⊎◌, length, Some, None, Option, refl, ap, subst, inl, inr, arith}
 use native.Mathlib.Decide.{ℕ_discrete}
 use Rattle.std.proofs.lemmas.Bool.{eq-eqb, eqb-true}
-use Rattle.spans.specs.Kind.{Kind, Laws, ◌≤⟨◌⟩◌}
+use Rattle.spans.specs.Kind.{Kind, Laws}
 use Rattle.spans.specs.Order.{lt_le, le_refl, le_trans}
 use Rattle.networks.specs.Network.{Network, condition_at}
 use Rattle.distances.specs.Graph.{Edge, forward, backward, hull_of}

@@ -1,14 +1,14 @@
 -- What stands behind each entry of a table with middle points: an edge, or two halves. A stage keeps it. Assumes nothing.
 --     Piece K N codes d mid k i j a     the entry a of (i, j) is an edge's weight, or the sum of its halves over a point below k
-use Rattle.std.proofs.Common.{◌≡◌, ℕ, zero, suc, ◌+◌, ◌*◌, ◌<◌, ◌≤◌, Bool, true, false, cond, eqb, ◌⊎◌, Some, None, Option, sym, refl, ap, ◌∙◌, subst, inl, inr, arith}
+use Rattle.std.proofs.Common.{◌≡◌, ℕ, zero, suc, ◌+◌, ◌*◌, ◌<◌, ◌≤◌, Bool, true, false, cond, eqb, Some, None, Option, sym, refl, ap, ◌∙◌, subst, inl, inr, arith}
 use Rattle.std.proofs.lemmas.Bool.{both_ways, cases_Bool, eq-eqb}
 use Rattle.spans.specs.Kind.{Kind, Laws, reach, ◌<⟨◌⟩◌, ◌≤⟨◌⟩◌}
 use Rattle.spans.specs.Sums.{◌⊕⟨◌⟩◌}
 use Rattle.spans.specs.Order.{le_trans}
-use Rattle.spans.proofs.Group.{sum_some, sum_size, comm, assoc, lt_plus, le_plus_left}
+use Rattle.spans.proofs.Group.{sum_size, comm, assoc, lt_plus, le_plus_left}
 use Rattle.networks.specs.Network.{Network}
 use Rattle.distances.specs.Graph.{Edge}
-use Rattle.distances.specs.Table.{Table, Middles, joined, beats, below_zero, AtMost, shortens, stage, stage_middles, closes, Small}
+use Rattle.distances.specs.Table.{Table, Middles, joined, beats, AtMost, shortens, stage, stage_middles, closes, Small}
 use Rattle.distances.proofs.Tables.{ClosedBelow, Fair, Staged, none_some, is_there, joined_parts, joined_some, to_calm, from_calm, to_same, from_same, kept}
 
 module _ {S : Type 0} (K : Kind S) (N : Network S) (codes : Middles) where

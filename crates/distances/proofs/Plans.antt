@@ -1,18 +1,18 @@
 -- Plans of the hulls are the dates that keep every edge, and a cycle below zero leaves none. Assumes nothing.
-use Rattle.std.proofs.Common.{◌≡◌, ℕ, zero, suc, ◌+◌, ◌*◌, ◌<◌, ◌≤◌, List, [], ◌∷◌, ◌++◌, map, length, get_or, Some, None, Option, unwrap_or, sym, refl, ap, ◌∙◌, subst, arith}
+use Rattle.std.proofs.Common.{◌≡◌, ℕ, suc, ◌+◌, ◌*◌, ◌<◌, ◌≤◌, List, [], ◌∷◌, map, length, get_or, Some, None, Option, unwrap_or, sym, refl, ap, ◌∙◌, subst, arith}
 use native.Mathlib.Decide.{dec_lt}
 use Rattle.std.proofs.lemmas.List.{get_or_past, length-map}
 use Rattle.std.proofs.lemmas.Bool.{both_ways}
-use Rattle.spans.specs.Kind.{Kind, Laws, reach, ◌<⟨◌⟩◌, ◌≤⟨◌⟩◌}
+use Rattle.spans.specs.Kind.{Kind, Laws, ◌<⟨◌⟩◌, ◌≤⟨◌⟩◌}
 use Rattle.spans.specs.Sums.{◌⊕⟨◌⟩◌, ⊖⟨◌⟩◌}
 use Rattle.spans.specs.Order.{le_refl, le_trans}
 use Rattle.spans.proofs.Group.{sum_some, sum_size, comm, assoc, zero_left, zero_right, opposite_some, opposite_size, lt_plus, le_plus, plus_minus, minus_plus}
 use Rattle.networks.specs.declared.window.Window.{Window}
 use Rattle.networks.specs.Limits.{largest_end, largest_date, most_points}
-use Rattle.networks.specs.Network.{Condition, Network, open_window, condition_at, window_of}
+use Rattle.networks.specs.Network.{Network, open_window, condition_at, window_of}
 use Rattle.networks.specs.Hull.{last_high, hull_windows_lem, hull, hulls}
 use Rattle.networks.specs.Plan.{date, LowKept, HighKept, Fits, Meets, Plan, HasPlan}
-use Rattle.networks.specs.Legal.{Legal, LegalCondition}
+use Rattle.networks.specs.Legal.{Legal}
 use Rattle.layers.proofs.Hulls.{hull_at}
 use Rattle.distances.specs.Graph.{Edge, forward, backward, hull_of, Chain, stay, go, NegativeCycle}
 use Rattle.distances.proofs.Tables.{none_some}

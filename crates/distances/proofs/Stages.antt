@@ -1,26 +1,25 @@
 -- What stands after the stages below k: it stands at the start, each stage keeps it, and at the end it gives the least totals;
 -- or an edge closes a way below zero. Assumes nothing.
 --     Stands K N codes b d mid k     entries are totals of ways over points below k, and no such way is shorter; sizes are at most b
-use Rattle.std.proofs.Common.{◌≡◌, ℕ, zero, suc, ◌+◌, ◌*◌, ◌<◌, ◌≤◌, Bool, true, false, cond, eqb, ltb, ◌⊎◌, List, [], ◌∷◌, ◌++◌, length, Some, None, Option, sym, refl, ap, ◌∙◌, subst, inl, inr, arith, length-append}
+use Rattle.std.proofs.Common.{◌≡◌, ℕ, suc, ◌+◌, ◌*◌, ◌<◌, ◌≤◌, Bool, true, false, cond, eqb, ltb, ◌⊎◌, List, [], ◌∷◌, ◌++◌, length, Some, None, Option, sym, refl, ap, ◌∙◌, subst, inl, inr, arith, length-append}
 use mathlib.Core.Path.{fun_ext}
-use native.Mathlib.Decide.{dec_lt, ℕ_discrete}
+use native.Mathlib.Decide.{ℕ_discrete}
 use Rattle.std.proofs.lemmas.Bool.{both_ways, cases_Bool, eq-eqb, ne_eqb, eqb-true, lt-ltb, ltb-true}
 use Rattle.spans.specs.Kind.{Kind, Laws, reach, ◌<⟨◌⟩◌, ◌≤⟨◌⟩◌}
 use Rattle.spans.specs.Sums.{◌⊕⟨◌⟩◌}
-use Rattle.spans.specs.Order.{le_refl}
 use Rattle.spans.proofs.Group.{sum_some, comm, zero_right}
 use Rattle.networks.specs.Limits.{largest_end}
 use Rattle.networks.specs.Network.{Network}
-use Rattle.distances.specs.Graph.{Edge, Chain, stay, go, Distinct, Route, NegativeCycle}
+use Rattle.distances.specs.Graph.{Edge, Chain, stay, go, Route, NegativeCycle}
 use Rattle.distances.specs.Distance.{Least}
-use Rattle.distances.specs.Table.{Table, Middles, joined, below_zero, AtMost, shortens, stage, stage_middles, closes, Small, Closed, Done}
+use Rattle.distances.specs.Table.{Table, Middles, joined, below_zero, AtMost, shortens, stage, stage_middles, closes, Small, Done}
 use Rattle.distances.specs.Unfolding.{Unfolds, edge, halves, Falls}
 use Rattle.distances.specs.Edges.{weight, least_edge}
 use Rattle.distances.specs.Begun.{begun}
 use Rattle.distances.specs.Closing.{IsClosingEdge}
 use Rattle.distances.proofs.Distincts.{Among, Apart, apart_last, apart_distinct}
-use Rattle.distances.proofs.Tables.{ClosedBelow, Even, Zeros, Half, Staged, none_some, at_most, joined_parts, stage_cases, stage_old, stage_small, stage_closed, stage_even, all_closed}
-use Rattle.distances.proofs.Pieces.{Split, Piece, Pieced, direct, one_edge, split, shortened, shortened_off, middles_low, stage_pieced, fair}
+use Rattle.distances.proofs.Tables.{ClosedBelow, Even, Zeros, Staged, none_some, joined_parts, stage_cases, stage_old, stage_closed, stage_even, all_closed}
+use Rattle.distances.proofs.Pieces.{Split, Pieced, direct, one_edge, split, shortened, shortened_off, middles_low, stage_pieced, fair}
 use Rattle.distances.proofs.Chains.{Sound, chain_size, chain_append, chain_entry, route_few}
 use Rattle.distances.proofs.Ways.{Simple, a_way, way_chain, way_few, stage_simple}
 use Rattle.distances.proofs.LeastEdges.{weight_coded, least_edge_real, least_edge_least}

@@ -1,6 +1,6 @@
 -- The way that a table of middle points gives for an entry is a chain of edges through distinct points, and stays one. Assumes nothing.
 --     Simple K codes d mid       each way of an entry that is there visits no point twice
-use Rattle.std.proofs.Common.{◌≡◌, ℕ, zero, suc, ◌+◌, ◌*◌, ◌<◌, ◌≤◌, Bool, true, false, cond, ◌⊎◌, List, [], ◌∷◌, ◌++◌, length, Some, None, Option, sym, refl, ap, ◌∙◌, subst, inl, inr, arith, length-append}
+use Rattle.std.proofs.Common.{◌≡◌, ℕ, zero, suc, ◌+◌, ◌*◌, ◌<◌, ◌≤◌, true, false, ◌⊎◌, List, [], ◌∷◌, ◌++◌, length, Some, sym, refl, ap, ◌∙◌, subst, inl, inr, arith, length-append}
 use native.Mathlib.Decide.{dec_lt, ℕ_discrete}
 use Rattle.std.proofs.lemmas.Bool.{both_ways, cases_Bool}
 use Rattle.spans.specs.Kind.{Kind, Laws, reach, ◌<⟨◌⟩◌, ◌≤⟨◌⟩◌}
@@ -14,7 +14,7 @@ use Rattle.distances.specs.Table.{Table, Middles, shortens, stage, stage_middles
 use Rattle.distances.specs.Unfolding.{Unfolds, edge, halves, Falls}
 use Rattle.distances.proofs.Distincts.{Among, Apart, among_either, apart_append, apart_last, apart_few}
 use Rattle.distances.proofs.Tables.{Staged, is_there, to_calm, from_calm, round_adds}
-use Rattle.distances.proofs.Pieces.{Split, Piece, Pieced, direct, over, one_edge, split, Beaten, shortened, ends_apart, calm_left, calm_right}
+use Rattle.distances.proofs.Pieces.{Split, Pieced, one_edge, split, Beaten, shortened, ends_apart, calm_left, calm_right}
 use Rattle.distances.proofs.Chains.{Sound, chain_append}
 
 pub unfolds_lengths : {mid codes : Middles} {i j : ℕ} {cs ps : List ℕ} → Unfolds mid codes i j cs ps → length cs ≡ length ps

@@ -1,14 +1,13 @@
 -- What an answer of tighten says of the network: it can be granted, or it cannot. Assumes nothing.
-use Rattle.std.proofs.Common.{◌≡◌, ℕ, ◌+◌, ◌*◌, ◌<◌, ◌≤◌, Bool, true, false, cond, ◌&&◌, leb, List, length, Some, None, Ok, Err, Option, Result, sym, refl, ap, ◌∙◌, subst, arith}
+use Rattle.std.proofs.Common.{◌≡◌, ℕ, ◌+◌, ◌*◌, ◌≤◌, Bool, true, false, ◌&&◌, List, length, Some, None, Ok, Err, Option, sym, refl, ap, subst, arith}
 use Rattle.std.proofs.lemmas.Bool.{leb-true}
 use Rattle.spans.specs.Kind.{Kind}
 use Rattle.networks.specs.declared.fault.Fault.{Fault}
-use Rattle.networks.specs.Limits.{most_conditions}
 use Rattle.networks.specs.Network.{Network}
 use Rattle.networks.specs.Hull.{hulls}
 use Rattle.networks.specs.Plan.{HasPlan}
-use Rattle.networks.specs.Refusal.{Refusal, or_else, refuse_unless, checks_refusal}
-use Rattle.distances.specs.Tightening.{Tightens, AfterChecks, Ends}
+use Rattle.networks.specs.Refusal.{Refusal, or_else, refuse_unless}
+use Rattle.distances.specs.Tightening.{Tightens, AfterChecks}
 use Rattle.exports.specs.Meaning.{Grantable, AllOrNone}
 
 some_none : {A : Type 0} (x : A) → None ≡ Some x → ⊥

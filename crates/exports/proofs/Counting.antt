@@ -1,8 +1,8 @@
 -- The conditions that numbers spell, by their numbers. Assumes nothing.
-use Rattle.std.proofs.Common.{◌≡◌, ℕ, zero, suc, ◌+◌, ◌*◌, ◌/◌, ◌<◌, ◌≤◌, List, [], ◌∷◌, length, get_or, ℤ, sym, refl, ap, ◌∙◌, mul-le-mul_right, suc-mul, add-mul, div-mul-le_self, arith}
+use Rattle.std.proofs.Common.{◌≡◌, ℕ, zero, suc, ◌+◌, ◌*◌, ◌/◌, ◌<◌, ◌≤◌, List, length, get_or, ℤ, sym, refl, ap, ◌∙◌, suc-mul, div-mul-le_self, arith}
 use Rattle.std.proofs.lemmas.Nat.{mul-le}
 use Rattle.std.proofs.lemmas.List.{get_or_past}
-use Rattle.networks.specs.Network.{Condition, no_condition, condition_at}
+use Rattle.networks.specs.Network.{no_condition}
 use Rattle.exports.specs.Spelling.{Spelling}
 use Rattle.exports.specs.Meaning.{firsts, condition_from, condition_numbers, numbers_network, Begins, Absent}
 

@@ -1,5 +1,5 @@
 -- Entries written one after the other. Assumes that the spelling spells.
-use Rattle.std.proofs.Common.{◌≡◌, ℕ, suc, ◌+◌, ◌*◌, ◌<◌, ◌≤◌, cond, ltb, ◌≢◌, List, length, get_or, drop, set, ℤ, Some, None, Option, sym, refl, ap, ◌∙◌, suc-mul, arith, get_or-set_other, get_or-set_same}
+use Rattle.std.proofs.Common.{◌≡◌, ℕ, suc, ◌+◌, ◌*◌, ◌<◌, ◌≤◌, cond, ltb, List, length, get_or, set, ℤ, Some, None, ap, ◌∙◌, suc-mul, arith, get_or-set_other, get_or-set_same}
 use Rattle.std.proofs.lemmas.Nat.{mul-le}
 use Rattle.exports.specs.Spelling.{Spelling, Spells}
 use Rattle.exports.specs.Meaning.{entry_at}

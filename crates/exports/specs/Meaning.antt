@@ -4,7 +4,6 @@
 use Rattle.std.specs.Prelude.{◌≡◌, ℕ, zero, suc, ◌+◌, ◌*◌, ◌/◌, ◌%◌, ◌<◌, ◌≤◌, min, Bool, true, false, cond, ◌&&◌, List, [], ◌∷◌, length, drop, ℤ, pos, Some, None, Ok, Err, Option, Result, ◌==◌, int_lt, nat_lt, slice_index, slice_index_or, slice_set, unsigned_abs}
 use Rattle.spans.specs.Kind.{Kind}
 use Rattle.networks.specs.declared.fault.Fault.{Fault}
-use Rattle.networks.specs.declared.window.Window.{Window}
 use Rattle.networks.specs.Limits.{most_points, most_conditions}
 use Rattle.networks.specs.Hull.{hulls}
 use Rattle.networks.specs.Plan.{HasPlan}

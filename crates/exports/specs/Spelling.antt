@@ -1,7 +1,7 @@
 -- How a span is spelled in numbers. Assumes nothing.
 --     Spelling S     how many numbers a span takes, the span at a place, and a span written to a place
 --     Spells P       what is written is read again, and nothing else changes
-use Rattle.std.specs.Prelude.{◌≡◌, ℕ, ◌+◌, ◌<◌, ◌≤◌, List, length, drop, ℤ, pos, slice_index_or, slice_set}
+use Rattle.std.specs.Prelude.{◌≡◌, ℕ, ◌+◌, ◌≤◌, List, length, drop, ℤ, pos, slice_index_or, slice_set}
 use Rattle.spans.specs.declared.minutes.Minutes.{Minutes}
 use Rattle.spans.specs.declared.pair.Pair.{Pair}
 use Rattle.spans.specs.MinuteKind.{minutes}

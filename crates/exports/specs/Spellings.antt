@@ -1,6 +1,6 @@
 -- Both kinds spell: what is written is read again, and nothing else changes. Assumes nothing.
-use Rattle.std.specs.Prelude.{◌≡◌, ℕ, ◌+◌, ◌<◌, ◌≤◌, ◌≢◌, List, length, ℤ, pos, slice_index_or, slice_set, refl}
-use Rattle.std.proofs.Common.{sym, ◌∙◌, ap, arith, length-set, get_or-set_same, get_or-set_other, drop-set-lt}
+use Rattle.std.specs.Prelude.{◌≡◌, ℕ, ◌+◌, ◌<◌, ◌≢◌, List, length, ℤ, pos, slice_index_or, slice_set}
+use Rattle.std.proofs.Common.{◌∙◌, ap, arith, length-set, get_or-set_same, get_or-set_other, drop-set-lt}
 use Rattle.spans.specs.MinuteKind.{minutes}
 use Rattle.spans.specs.PairKind.{pair}
 use Rattle.exports.specs.Spelling.{Spells, minute_spelling, rank_spelling}

@@ -1,5 +1,5 @@
 -- What each question finds under the layers of a selection, whole or in part. Assumes nothing.
-use Rattle.std.proofs.Common.{◌≡◌, ℕ, zero, suc, ◌+◌, ◌<◌, ◌≤◌, Bool, true, false, ltb, List, [], ◌∷◌, ◌++◌, length, get_or, take, drop, Some, None, MatchBool, Option, sym, refl, ap, ◌∙◌, inl, inr, arith, length-append, length-drop, length-take, MatchOption}
+use Rattle.std.proofs.Common.{◌≡◌, ℕ, zero, suc, ◌<◌, ◌≤◌, Bool, true, false, ltb, List, [], ◌∷◌, ◌++◌, length, get_or, take, drop, Some, None, MatchBool, Option, sym, refl, ap, ◌∙◌, inl, inr, arith, length-append, length-drop, length-take, MatchOption}
 use Rattle.std.proofs.lemmas.List.{get_or_past, length-map}
 use Rattle.std.proofs.lemmas.Bool.{ltb-true, ltb-false, lt-ltb, le-ltb, cases_lt, cond-true, cond-false}
 use Rattle.networks.specs.Network.{Condition, Network, no_condition, open_window, condition_at, window_of}

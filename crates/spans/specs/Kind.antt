@@ -2,7 +2,7 @@
 --     Kind S           the operations of a kind
 --     Laws S K         what every kind shows; every proof about networks rests on this alone
 --     OnlyWithin S K  that no other sum and no other opposite is there; apart, since no proof about networks rests on it
-use Rattle.std.specs.Prelude.{◌≡◌, ℕ, ◌+◌, ◌^◌, ◌≤◌, Bool, true, false, is_some, Some, None, Option, ◌≢◌}
+use Rattle.std.specs.Prelude.{◌≡◌, ℕ, ◌+◌, ◌^◌, ◌≤◌, Bool, true, false, is_some, Some, Option, ◌≢◌}
 
 -- `less a b`: a is below b. A sum or an opposite that is not there is `None`.
 pub record Kind (S : Type 0) : Type 0 where

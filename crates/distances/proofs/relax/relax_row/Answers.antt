@@ -1,4 +1,4 @@
-use Rattle.std.proofs.Common.{◌≡◌, sym, refl, ◌∙◌, arith}
+use Rattle.std.proofs.Common.{sym, refl, ◌∙◌}
 use Rattle.distances.specs.Matrix.{table, numbers}
 use Rattle.distances.proofs.Matrices.{row_none, row_pass}
 use Rattle.distances.proofs.Relaxing.{stage_keeps, middle_keeps, itself}

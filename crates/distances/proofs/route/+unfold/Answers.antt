@@ -1,5 +1,5 @@
 -- One edge is written, or the first half and behind it the second. Assumes nothing.
-use Rattle.std.proofs.Common.{◌≡◌, ℕ, suc, ◌-◌, ◌<◌, length, take, drop, sym, refl, ◌∙◌, subst, arith}
+use Rattle.std.proofs.Common.{◌≡◌, suc, ◌-◌, ◌<◌, length, take, drop, sym, refl, ◌∙◌, subst, arith}
 use Rattle.distances.specs.declared.route.Way.{Way}
 use Rattle.distances.specs.Matrix.{numbers}
 use Rattle.distances.specs.Unfolding.{Unfoldable, Unfolded}

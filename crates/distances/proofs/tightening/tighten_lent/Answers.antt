@@ -1,5 +1,5 @@
 -- A check refuses and nothing is written; or tightening ends as it does. Assumes nothing.
-use Rattle.std.proofs.Common.{◌≡◌, Err, refl, ap, ◌∙◌}
+use Rattle.std.proofs.Common.{Err, refl, ap, ◌∙◌}
 use Rattle.std.proofs.lemmas.Result.{err_from_is_err_and}
 use Rattle.networks.specs.Limits.{most_conditions}
 use Rattle.networks.specs.Refusal.{checks_refusal}

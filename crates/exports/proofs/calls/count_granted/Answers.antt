@@ -1,5 +1,4 @@
-use Rattle.std.proofs.Common.{◌≡◌, ℕ, length, sym, refl, ap, ◌∙◌, subst, arith}
-use Rattle.exports.specs.Meaning.{AllOrNone}
+use Rattle.std.proofs.Common.{◌≡◌, length, refl, arith}
 use Rattle.exports.proofs.Answering.{ok_grantable, err_not, one_more, no_more}
 use Rattle.exports.proofs.calls.count_granted.Goals as goal
 use Rattle.exports.proofs.calls.count_granted.Goals.{in-Ok, in-Err}

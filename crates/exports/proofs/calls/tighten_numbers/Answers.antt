@@ -1,5 +1,5 @@
 -- A granted network has room for its entries, in the engine's memory and in the numbers. Assumes nothing.
-use Rattle.std.proofs.Common.{◌≡◌, ℕ, ◌-◌, ◌*◌, ◌/◌, ◌≤◌, length, take, sym, refl, ap, ◌∙◌, div-mul-le_self, arith, length-take}
+use Rattle.std.proofs.Common.{◌≡◌, ℕ, ◌-◌, ◌*◌, ◌/◌, ◌≤◌, length, take, refl, ap, div-mul-le_self, arith, length-take}
 use Rattle.std.proofs.lemmas.Nat.{mul-le}
 use Rattle.exports.specs.Meaning.{numbers_network}
 use Rattle.exports.proofs.Answering.{ok_grantable, granted_room}

@@ -1,4 +1,4 @@
-use Rattle.std.proofs.Common.{◌≡◌, ℕ, ◌*◌, List, drop, ℤ, sym, refl, ap, ◌∙◌, arith, drop-set-lt}
+use Rattle.std.proofs.Common.{◌≡◌, ℕ, ◌*◌, List, drop, ℤ, sym, refl, ap, ◌∙◌, drop-set-lt}
 use Rattle.exports.proofs.EntryWrites.{here_some, here_none, before_mark, before_some}
 use Rattle.exports.proofs.entries.write_entry.Goals as goal
 

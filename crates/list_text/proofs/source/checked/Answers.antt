@@ -1,4 +1,4 @@
-use Rattle.std.proofs.Common.{refl, inl, inr, arith}
+use Rattle.std.proofs.Common.{refl, inl, inr}
 use Rattle.list_text.proofs.Texts.{read_as, too_long_once, fault_once}
 use Rattle.list_text.proofs.source.checked.Goals as goal
 

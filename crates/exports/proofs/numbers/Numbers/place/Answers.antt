@@ -1,4 +1,4 @@
-use Rattle.std.proofs.Common.{◌≡◌, ℕ, ◌+◌, ◌*◌, ◌/◌, ◌<◌, ◌≤◌, length, sym, ap, ◌∙◌, arith, rules}
+use Rattle.std.proofs.Common.{ℕ, ◌+◌, ◌*◌, ◌/◌, ◌<◌, ◌≤◌, length, ap, arith}
 use Rattle.exports.specs.Meaning.{condition_numbers}
 use Rattle.exports.proofs.Counting.{counted, part_room, begins, absent}
 use Rattle.exports.proofs.numbers.Numbers.place.Goals as goal

@@ -1,7 +1,0 @@
-pub mod Rising
-pub mod Selecting
-pub mod Solving
-pub mod Firsts
-mod Levels
-mod Placing
-mod Descending

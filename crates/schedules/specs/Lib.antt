@@ -1,3 +1,0 @@
-pub mod Solution
-pub mod Range
-pub mod Choosing
