@@ -1,0 +1,7 @@
+pub mod Rising
+pub mod Selecting
+pub mod Solving
+pub mod Firsts
+mod Levels
+mod Placing
+mod Descending
