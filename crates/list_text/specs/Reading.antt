@@ -1,6 +1,6 @@
 -- What it is to read on from a place: the machine goes from a state at p to a state at q, or gets stuck at a place.
 -- `conditions_from` is what a `ListText` means, and `read` promises that this is what its text denotes; `Readable` is what `fill` promises under and `read` promises of what it makes. The others are said by private functions alone. Assumes nothing.
-use Rattle.std.specs.Prelude.{◌≡◌, ℕ, ◌+◌, ◌-◌, ◌<◌, ◌≤◌, cond, ◌&&◌, ◌⊎◌, List, [], ◌∷◌, ◌++◌, length, get_or, drop, Some, None, Ok, Err, Option, Result, nat_le, slice_index_or, slice_set}
+use Rattle.std.specs.Prelude.{◌≡◌, ℕ, ◌+◌, ◌-◌, ◌<◌, ◌≤◌, cond, ◌&&◌, ◌⊎◌, List, [], ◌∷◌, ◌++◌, length, drop, Some, None, Ok, Err, Option, Result, nat_le, slice_index_or, slice_set}
 use Rattle.spans.specs.declared.minutes.Minutes.{Minutes}
 use Rattle.networks.specs.declared.window.Window.{Window}
 use Rattle.networks.specs.declared.rows.Row.{Row}
@@ -80,9 +80,9 @@ conditions_from t p = cond (nat_le (length t) longest_text && nat_le p (length t
 -- what one look at the rows shows of condition k and its window w
 pub record Looked (cs : List (Condition Minutes)) (k w : ℕ) (v : ℕ × Row Minutes) : Type 0 where
   pub many : v.0 ≡ length cs
-  pub from : v.1.from ≡ (get_or cs k no_condition).from
-  pub to : v.1.to ≡ (get_or cs k no_condition).to
-  pub count : v.1.count ≡ length (get_or cs k no_condition).windows
+  pub from : v.1.from ≡ (slice_index_or cs k no_condition).from
+  pub to : v.1.to ≡ (slice_index_or cs k no_condition).to
+  pub count : v.1.count ≡ length (slice_index_or cs k no_condition).windows
   pub window : v.1.first ≡ window_of (slice_index_or cs k no_condition) w
 
 -- from the place p on there are rows, up to the end of a text that is not too long, and these are the conditions
