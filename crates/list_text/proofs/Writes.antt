@@ -3,7 +3,7 @@
 use Rattle.std.proofs.Common.{◌≡◌, ℕ, zero, suc, ◌+◌, ◌^◌, ◌<◌, ◌≤◌, true, false, List, [], ◌∷◌, ◌++◌, length, get_or, drop, ℤ, pos, negsuc, nat_abs, Some, codes, decimal, sym, refl, ap, ◌∙◌, subst, append_assoc, arith, lit<, length-drop, rules}
 use Rattle.std.specs.Fmt.{signed_decimal}
 use Rattle.std.proofs.lemmas.List.{drop_more, drop_all, get_or-drop}
-use Rattle.std.specs.List.{AllByRecursion as All}
+use Rattle.std.specs.List.{AllByRecursion}
 use Rattle.std.proofs.ByRecursion.{All-get_or}
 use Rattle.std.proofs.lemmas.Str.Parse.{IsNumeralModel, numerals_by_fold, digits_value_short}
 use Rattle.std.proofs.lemmas.Fmt.{decimal_digit, decimal_nonempty, length-decimal-le, digits_decimal, digits_value-decimal}
@@ -55,7 +55,7 @@ signed_small z bs (true, zero, ds, s, e, b, only) = subst (λ z. nat_abs z < 10 
 signed_small z bs (true, suc n, ds, s, e, b, only) = subst (λ z. nat_abs z < 10 ^ 12) e (shortest_small (suc n) ds s)
 
 -- dates that have a text are writable
-rows_small : (p : ℕ) (ds : List Minutes) (u v : List ℕ) → AllRows compact (dated_from p ds) u v → All (λ d. nat_abs d.count < 10 ^ 12) ds
+rows_small : (p : ℕ) (ds : List Minutes) (u v : List ℕ) → AllRows compact (dated_from p ds) u v → AllByRecursion (λ d. nat_abs d.count < 10 ^ 12) ds
 rows_small p [] u v r = tt
 rows_small p (d ∷ ds) u v r = (signed_small d.count _ r.2.1.2.2.2.2.2.2.1.1.2.1.2.2.1.1, rows_small (p + 1) ds _ v r.2.2)
 

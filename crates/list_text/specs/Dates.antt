@@ -1,6 +1,6 @@
 -- The list text that says which date each point but the first has, seen from the first. Assumes nothing.
 use Rattle.std.specs.Prelude.{ℕ, ◌+◌, ◌^◌, ◌<◌, Bool, true, false, List, [], ◌∷◌, ◌++◌, length, drop, Some, None, Option, unsigned_abs}
-use Rattle.std.specs.List.{AllByRecursion as All}
+use Rattle.std.specs.List.{AllByRecursion}
 use Rattle.spans.specs.declared.minutes.Minutes.{Minutes}
 use Rattle.networks.specs.Network.{Condition, Network}
 use Rattle.list_text.specs.Grammar.{Part, Listing, Text, compact, Denotes}
@@ -35,7 +35,7 @@ TextOfDates bytes ds None = (t : List ℕ) → Text compact (dates_listing ds) t
 -- they have a text: 12 digits write the number of the dates, and each of them but the first
 pub record Writable (ds : List Minutes) : Type 0 where
   pub few : length ds < 10 ^ 12
-  pub small : All (λ d. unsigned_abs d.count < 10 ^ 12) (drop 1 ds)
+  pub small : AllByRecursion (λ d. unsigned_abs d.count < 10 ^ 12) (drop 1 ds)
 
 -- ---- said by private functions alone
 -- a test of whether dates are writable; where it fails, there is no text

@@ -1,6 +1,6 @@
 -- Totals of lists, with their sizes. The bound of a part and the number of parts are numbers that a lemma takes. Assumes nothing.
 use Rattle.std.proofs.Common.{◌≡◌, ℕ, ◌+◌, ◌*◌, ◌<◌, ◌≤◌, List, [], ◌∷◌, ◌++◌, length, get_or, take, drop, Some, sym, ap, ◌∙◌, suc-mul, arith, take-append-drop}
-use Rattle.std.specs.List.{AllByRecursion as All}
+use Rattle.std.specs.List.{AllByRecursion}
 use Rattle.std.proofs.lemmas.List.{take_more}
 use Rattle.spans.specs.Kind.{Kind, Laws, reach}
 use Rattle.spans.specs.Sums.{◌⊕⟨◌⟩◌, total, sizes}
@@ -15,7 +15,7 @@ module _ {S : Type 0} (K : Kind S) where
   sizes_take n xs = omega (arith, sizes_append (take n xs) (drop n xs), ap (sizes K) (take-append-drop n xs))
 
   -- parts of size n at most
-  pub sizes_within : (n : ℕ) (xs : List S) → All (λ x. K.size x ≤ n) xs → sizes K xs ≤ length xs * n
+  pub sizes_within : (n : ℕ) (xs : List S) → AllByRecursion (λ x. K.size x ≤ n) xs → sizes K xs ≤ length xs * n
   sizes_within n [] h = omega arith
   sizes_within n (x ∷ xs) h = simp suc-mul (omega (arith, h.0, sizes_within n xs h.1))
 
@@ -25,7 +25,7 @@ module _ {S : Type 0} {K : Kind S} (laws : Laws S K) where
   total_size (x ∷ xs) = omega (arith, sum_size laws x (total K xs), total_size xs)
 
   -- so that the total is there where their number times n is within reach
-  pub total_within : (n : ℕ) (xs : List S) → All (λ x. K.size x ≤ n) xs → K.size (total K xs) ≤ length xs * n
+  pub total_within : (n : ℕ) (xs : List S) → AllByRecursion (λ x. K.size x ≤ n) xs → K.size (total K xs) ≤ length xs * n
   total_within n xs h = omega (arith, total_size xs, sizes_within K n xs h)
 
   pub total_append : (xs ys : List S) → sizes K xs + sizes K ys ≤ reach → total K (xs ++ ys) ≡ total K xs ⊕⟨ K ⟩ total K ys
