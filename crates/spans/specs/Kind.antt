@@ -1,8 +1,10 @@
 -- A kind of span: signed distances in time, whose sums and opposites are there only within a size. Assumes nothing.
 --     Kind S           the operations of a kind
 --     Laws S K         what every kind shows; every proof about networks rests on this alone
---     OnlyWithin S K  that no other sum and no other opposite is there; apart, since no proof about networks rests on it
+--     OnlyWithin S K   that no other sum and no other opposite is there; apart, since no proof about networks rests on it
 use Rattle.std.specs.Prelude.{◌≡◌, ℕ, ◌+◌, ◌^◌, ◌≤◌, Bool, true, false, is_some, Some, Option, ◌≢◌}
+use Rattle.std.specs.declared.cmp.Ordering.{Ordering}
+use Rattle.std.specs.Ordering.{is_lt}
 
 -- `less a b`: a is below b. A sum or an opposite that is not there is `None`.
 pub record Kind (S : Type 0) : Type 0 where
@@ -61,3 +63,7 @@ pub record Laws (S : Type 0) (K : Kind S) : Type 0 where
 pub record OnlyWithin (S : Type 0) (K : Kind S) : Type 0 where
   pub no_other_sum : (a b : S) → is_some (K.plus a b) ≡ true → K.size a + K.size b ≤ reach
   pub no_other_opposite : (a : S) → is_some (K.opposite a) ≡ true → K.size a ≤ reach
+
+-- the order of a kind is that of the comparison R
+abbrev pub OrderedBy : {S : Type 0} → Kind S → (S → S → Ordering) → Type 0
+OrderedBy {S} K R = (a b : S) → is_lt (R a b) ≡ K.less a b

@@ -1,9 +1,11 @@
 -- Minutes show the laws: each is one of whole numbers. Assumes nothing.
-use Rattle.std.specs.Prelude.{◌≡◌, ◌+◌, ◌≤◌, true, ◌⊎◌, ℤ, pos, ◌+ℤ◌, neg_ℤ, Some, ◌≢◌, int_lt, unsigned_abs, refl}
+use Rattle.std.specs.Prelude.{◌≡◌, ◌+◌, ◌≤◌, Bool, true, false, cond, ◌⊎◌, ℤ, pos, ◌+ℤ◌, neg_ℤ, Some, ◌≢◌, int_lt, unsigned_abs, refl}
+use Rattle.std.specs.declared.cmp.Ordering.TheVariants.{Less, Equal, Greater}
+use Rattle.std.specs.Ordering.{is_lt, int_cmp}
 use Rattle.std.proofs.Common.{ap, ◌∙◌, inl, inr, arith}
 use Rattle.std.proofs.lemmas.Int.{by_lt_z, ints}
 use Rattle.std.proofs.lemmas.Bool.{le-leb, leb-true}
-use Rattle.spans.specs.Kind.{Laws, OnlyWithin}
+use Rattle.spans.specs.Kind.{Laws, OnlyWithin, OrderedBy}
 use Rattle.spans.specs.MinuteKind.{minutes, minute_plus, minute_opposite, minute_kind}
 use Rattle.spans.specs.declared.minutes.Minutes.{Minutes}
 use Rattle.spans.specs.Parts.{guard_value, guard_there, guard_test, one_of_three}
@@ -57,3 +59,15 @@ minute_within = record {
   no_other_sum = λ a b h. leb-true _ _ (guard_test _ (Some (minutes (a.count +ℤ b.count))) h);
   no_other_opposite = λ a h. leb-true _ _ (guard_test _ (Some (minutes (neg_ℤ a.count))) h);
 }
+
+-- whole numbers are compared by their order
+lt_of_int_cmp : (a b : ℤ) → is_lt (int_cmp a b) ≡ int_lt a b
+lt_of_int_cmp a b = by_tests (int_lt a b) (int_lt b a)
+  where
+    by_tests : (l g : Bool) → is_lt (cond l Less (cond g Greater Equal)) ≡ l
+    by_tests true g = refl
+    by_tests false true = refl
+    by_tests false false = refl
+
+pub minute_ordered : OrderedBy minute_kind (λ (a b : Minutes). int_cmp a.count b.count)
+minute_ordered a b = lt_of_int_cmp a.count b.count

@@ -1,8 +1,12 @@
 -- A pair of two kinds shows the laws, from those of its parts. Assumes nothing.
 use Rattle.std.specs.Prelude.{◌≡◌, Bool, true, false, not, ◌&&◌, ◌||◌, ◌⊎◌, is_some, Some, None, Option, ◌≢◌, refl}
+use Rattle.std.specs.declared.cmp.Ordering.{Ordering}
+use Rattle.std.specs.declared.cmp.Ordering.TheVariants.{Less, Equal, Greater}
+use Rattle.std.specs.Ordering.{is_lt, ordering_reverse, ordering_then}
+use Rattle.std.specs.Cmp.{IsTotalOrder}
 use Rattle.std.proofs.Common.{sym, ap, ◌∙◌, inl, inr, arith}
 use Rattle.std.proofs.lemmas.Bool.{le-leb, leb-true}
-use Rattle.spans.specs.Kind.{Kind, Laws, OnlyWithin, Compared, is_less, is_same, is_greater}
+use Rattle.spans.specs.Kind.{Kind, Laws, OnlyWithin, OrderedBy, Compared, is_less, is_same, is_greater}
 use Rattle.spans.specs.PairKind.{pair, both, pair_less, pair_plus, pair_opposite, pair_kind}
 use Rattle.spans.specs.declared.pair.Pair.{Pair}
 use Rattle.spans.specs.Parts.{guard_value, guard_there, guard_test, one_of_three}
@@ -144,3 +148,18 @@ module _ {A B : Type 0} (KA : Kind A) (KB : Kind B) where
         let t = there_both (KA.opposite p.first) (KB.opposite p.second) h in
         omega (arith, wa.no_other_opposite p.first t.0, wb.no_other_opposite p.second t.1);
   }
+
+-- ---- the order of a pair is the comparison of its parts, one after the other
+then_less : (r s t : Ordering) → s ≡ ordering_reverse r → is_lt (ordering_then r t) ≡ (is_lt r || (not (is_lt s) && is_lt t))
+then_less Less s t e = refl
+then_less Equal s t e = rw e refl
+then_less Greater s t e = rw e refl
+
+pub pair_ordered : {A B : Type 0} (KA : Kind A) (KB : Kind B) (RA : A → A → Ordering) (RB : B → B → Ordering)
+    → IsTotalOrder RA → OrderedBy KA RA → OrderedBy KB RB
+    → OrderedBy (pair_kind KA KB) (λ (p q : Pair A B). ordering_then (RA p.first q.first) (RB p.second q.second))
+pair_ordered {A} {B} KA KB RA RB o ha hb p q =
+    then_less (RA p.first q.first) (RA q.first p.first) (RB p.second q.second) (o.antisymm q.first p.first)
+    ∙ ap (λ (b : Bool). b || (not (is_lt (RA q.first p.first)) && is_lt (RB p.second q.second))) (ha p.first q.first)
+    ∙ ap (λ (b : Bool). KA.less p.first q.first || (not b && is_lt (RB p.second q.second))) (ha q.first p.first)
+    ∙ ap (λ (b : Bool). KA.less p.first q.first || (not (KA.less q.first p.first) && b)) (hb p.second q.second)

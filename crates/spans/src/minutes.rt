@@ -1,11 +1,11 @@
 // Minutes as a kind of spans.
 ghost use Rattle.std.specs.Prelude.{◌≡◌};
 ghost use Rattle.spans.specs.MinuteKind.{minute_kind};
-ghost use Rattle.spans.specs.MinuteLaws.{minute_laws, minute_within};
+ghost use Rattle.spans.specs.MinuteLaws.{minute_laws, minute_within, minute_ordered};
 
 use crate::span::{REACH, Span};
 
-#[derive(Clone, Copy)]
+#[derive(Clone, Copy, Debug, PartialEq, Eq, PartialOrd, Ord, Hash)]
 pub struct Minutes {
     pub count: i64,
 }
@@ -16,6 +16,8 @@ impl Span for Minutes {
     ghost lawful = { minute_laws };
 
     ghost within = { minute_within };
+
+    ghost ordered = { minute_ordered };
 
     fn zero() -> Minutes
         ensures { result ≡ minute_kind.zero }
@@ -33,12 +35,6 @@ impl Span for Minutes {
         ensures { result ≡ minute_kind.size self }
     {
         self.count.unsigned_abs()
-    }
-
-    fn is_less(self, other: Minutes) -> bool
-        ensures { result ≡ minute_kind.less self other }
-    {
-        self.count < other.count
     }
 
     fn sum(self, other: Minutes) -> Option<Minutes>

@@ -1,12 +1,12 @@
 // A pair of two kinds as a kind: the first part decides the order, the second one only among equals.
 ghost use Rattle.std.specs.Prelude.{◌≡◌};
 ghost use Rattle.spans.specs.PairKind.{pair_kind};
-ghost use Rattle.spans.specs.PairLaws.{pair_laws, pair_within};
+ghost use Rattle.spans.specs.PairLaws.{pair_laws, pair_within, pair_ordered};
 
 use crate::minutes::Minutes;
 use crate::span::{REACH, Span};
 
-#[derive(Clone, Copy)]
+#[derive(Clone, Copy, Debug, PartialEq, Eq, PartialOrd, Ord, Hash)]
 pub struct Pair<A, B> {
     pub first: A,
     pub second: B,
@@ -21,6 +21,8 @@ impl<A: Span, B: Span> Span for Pair<A, B> {
     ghost lawful = { pair_laws A.Span.kind B.Span.kind A.Span.lawful B.Span.lawful };
 
     ghost within = { pair_within A.Span.kind B.Span.kind A.Span.within B.Span.within };
+
+    ghost ordered = { pair_ordered A.Span.kind B.Span.kind A.Ord.cmp B.Ord.cmp A.Ord.total A.Span.ordered B.Span.ordered };
 
     fn zero() -> Pair<A, B>
         ensures { result ≡ (pair_kind A.Span.kind B.Span.kind).zero }
@@ -46,23 +48,11 @@ impl<A: Span, B: Span> Span for Pair<A, B> {
         self.first.size().max(self.second.size())
     }
 
-    fn is_less(self, other: Pair<A, B>) -> bool
-        ensures { result ≡ (pair_kind A.Span.kind B.Span.kind).less self other }
-    {
-        if self.first.is_less(other.first) {
-            return true;
-        }
-        if other.first.is_less(self.first) {
-            return false;
-        }
-        self.second.is_less(other.second)
-    }
-
     fn sum(self, other: Pair<A, B>) -> Option<Pair<A, B>>
         ensures { result ≡ (pair_kind A.Span.kind B.Span.kind).plus self other }
     {
-        let a = self.first.size().max(self.second.size());
-        let b = other.first.size().max(other.second.size());
+        let a = self.size();
+        let b = other.size();
         if a > REACH || b > REACH - a {
             return None;
         }

@@ -1,11 +1,12 @@
 // What a kind of spans answers, and the laws that it shows.
 ghost use Rattle.std.specs.Prelude.{◌≡◌};
-ghost use Rattle.spans.specs.Kind.{Kind, Laws, OnlyWithin};
+ghost use Rattle.spans.specs.Kind.{Kind, Laws, OnlyWithin, OrderedBy};
 
 // The two parts of a sum have at most this size together, and a span with an opposite has at most this size: 2^42.
-pub const REACH: u64 = 4398046511104;
+pub const REACH: u64 = 1 << 42;
 
-pub trait Span: Copy {
+// The order of `Ord` is that of the kind.
+pub trait Span: Copy + Ord {
     ghost kind: { Kind Self };
 
     fn zero() -> Self
@@ -18,9 +19,6 @@ pub trait Span: Copy {
     fn size(self) -> u64
         ensures { result ≡ kind.size self };
 
-    fn is_less(self, other: Self) -> bool
-        ensures { result ≡ kind.less self other };
-
     // None where the sum is not there.
     fn sum(self, other: Self) -> Option<Self>
         ensures { result ≡ kind.plus self other };
@@ -29,7 +27,16 @@ pub trait Span: Copy {
     fn opposite(self) -> Option<Self>
         ensures { result ≡ kind.opposite self };
 
+    // The same as `<`, said in the kind's own words.
+    final fn is_less(self, other: Self) -> bool
+        ensures { result ≡ kind.less self other }
+    {
+        self < other
+    }
+
     ghost lawful: { Laws Self kind };
 
     ghost within: { OnlyWithin Self kind };
+
+    ghost ordered: { OrderedBy kind Self.cmp };
 }
