@@ -9,7 +9,8 @@ use crate::window::Window;
 use spans::Span;
 
 // A condition: its points, the number of its windows and room for four of them; later ones lack both ends.
-#[derive(Clone, Copy)]
+// Four fields and not an array: how large an array of a generic element is, is a goal at each use that no bound of `S` shows (tried).
+#[derive(Clone, Copy, Debug, PartialEq, Eq)]
 pub struct Row<S> {
     pub from: usize,
     pub to: usize,
@@ -20,32 +21,11 @@ pub struct Row<S> {
     pub fourth: Window<S>,
 }
 
+// Window w of these, both ends missing where there is none.
 fn window_at<S: Span>(windows: &[Window<S>], w: usize) -> Window<S>
     ensures { result ≡ slice_index_or windows.now w open_window }
 {
-    if w < windows.len() {
-        windows[w]
-    } else {
-        Window {
-            low: None,
-            high: None,
-        }
-    }
-}
-
-// The row of these windows, the first four of them in its room.
-fn row_from<S: Span>(from: usize, to: usize, windows: &[Window<S>]) -> Row<S>
-    ensures { MadeRow from to windows.now result }
-{
-    Row {
-        from,
-        to,
-        count: windows.len(),
-        first: window_at(windows, 0),
-        second: window_at(windows, 1),
-        third: window_at(windows, 2),
-        fourth: window_at(windows, 3),
-    }
+    windows.get(w).copied().unwrap_or(Window::any())
 }
 
 impl<S: Span> Row<S> {
@@ -53,7 +33,15 @@ impl<S: Span> Row<S> {
     pub fn new(from: usize, to: usize, windows: &[Window<S>]) -> Row<S>
         ensures { MadeRow from to windows.now result }
     {
-        row_from(from, to, windows)
+        Row {
+            from,
+            to,
+            count: windows.len(),
+            first: window_at(windows, 0),
+            second: window_at(windows, 1),
+            third: window_at(windows, 2),
+            fourth: window_at(windows, 3),
+        }
     }
 
     // Window w of the row, both ends missing where there is none.
@@ -61,20 +49,14 @@ impl<S: Span> Row<S> {
         ensures { result ≡ window_of (row_condition self.now) w }
     {
         if w >= self.count {
-            return Window {
-                low: None,
-                high: None,
-            };
+            return Window::any();
         }
         match w {
             0 => self.first,
             1 => self.second,
             2 => self.third,
             3 => self.fourth,
-            _ => Window {
-                low: None,
-                high: None,
-            },
+            _ => Window::any(),
         }
     }
 }
@@ -85,14 +67,11 @@ pub struct Rows<'a, S> {
     rows: &'a [Row<S>],
 }
 
-// A source made of rows.
-pub trait FromRows<'a>: Source {
-    fn from_rows(points: usize, rows: &'a [Row<Self::Span>]) -> Self
-        ensures { Self.Source.means result ≡ rows_network points rows.now };
-}
-
-impl<'a, S: Span> FromRows<'a> for Rows<'a, S> {
-    fn from_rows(points: usize, rows: &'a [Row<S>]) -> Rows<'a, S> {
+impl<'a, S: Span> Rows<'a, S> {
+    // The source of these rows.
+    pub fn from_rows(points: usize, rows: &'a [Row<S>]) -> Rows<'a, S>
+        ensures { ⟦<Rows<'a, S> as Source>⟧.means result ≡ rows_network points rows.now }
+    {
         Rows { points, rows }
     }
 }
@@ -110,11 +89,7 @@ impl<S: Span> Rows<'_, S> {
         ensures { MatchOption result (RowAbsent self.now.points self.now.rows.now k)
             (λ row. RowThere self.now.points self.now.rows.now k row.now) }
     {
-        if k < self.rows.len() {
-            Some(&self.rows[k])
-        } else {
-            None
-        }
+        self.rows.get(k)
     }
 }
 
@@ -132,37 +107,22 @@ impl<S: Span> Source for Rows<'_, S> {
     }
 
     fn from(&self, k: usize) -> usize {
-        match self.row(k) {
-            Some(row) => row.from,
-            None => 0,
-        }
+        self.row(k).map_or(0, |row| row.from)
     }
 
     fn to(&self, k: usize) -> usize {
-        match self.row(k) {
-            Some(row) => row.to,
-            None => 0,
-        }
+        self.row(k).map_or(0, |row| row.to)
     }
 
     fn windows(&self, k: usize) -> usize {
-        match self.row(k) {
-            Some(row) => row.count,
-            None => 0,
-        }
+        self.row(k).map_or(0, |row| row.count)
     }
 
     fn low(&self, k: usize, w: usize) -> Option<S> {
-        match self.row(k) {
-            Some(row) => row.window(w).low,
-            None => None,
-        }
+        self.row(k)?.window(w).low
     }
 
     fn high(&self, k: usize, w: usize) -> Option<S> {
-        match self.row(k) {
-            Some(row) => row.window(w).high,
-            None => None,
-        }
+        self.row(k)?.window(w).high
     }
 }

@@ -36,18 +36,6 @@ pub trait Source {
         ensures { result ≡ (window_of (condition_at (means self.now) k) w).high };
 }
 
-// A source made of a reference to another.
-pub trait LentOver<'a, T: Source>: Source<Span = T::Span> {
-    fn over(under: &'a T) -> Self
-        ensures { Self.Source.means result ≡ T.Source.means under.now };
-}
-
-impl<'a, T: Source> LentOver<'a, T> for &'a T {
-    fn over(under: &'a T) -> &'a T {
-        under
-    }
-}
-
 // A reference to a source is a source that means the same.
 impl<T: Source> Source for &T {
     type Span = T::Span;
@@ -81,4 +69,11 @@ impl<T: Source> Source for &T {
     fn high(&self, k: usize, w: usize) -> Option<T::Span> {
         (**self).high(k, w)
     }
+}
+
+// The reference as a source.
+pub fn by_reference<'a, T: Source>(source: &'a T) -> &'a T
+    ensures { ⟦<&'a T as Source>⟧.means result ≡ T.Source.means source.now }
+{
+    source
 }
