@@ -28,20 +28,27 @@ fn window_at<S: Span>(windows: &[Window<S>], w: usize) -> Window<S>
     windows.get(w).copied().unwrap_or(Window::any())
 }
 
+// The row of these windows, the first four of them in its room.
+fn row_from<S: Span>(from: usize, to: usize, windows: &[Window<S>]) -> Row<S>
+    ensures { MadeRow from to windows.now result }
+{
+    Row {
+        from,
+        to,
+        count: windows.len(),
+        first: window_at(windows, 0),
+        second: window_at(windows, 1),
+        third: window_at(windows, 2),
+        fourth: window_at(windows, 3),
+    }
+}
+
 impl<S: Span> Row<S> {
     // The row of a condition with these windows. Up to four are kept; with more, the row has their number and no ends past the fourth.
     pub fn new(from: usize, to: usize, windows: &[Window<S>]) -> Row<S>
         ensures { MadeRow from to windows.now result }
     {
-        Row {
-            from,
-            to,
-            count: windows.len(),
-            first: window_at(windows, 0),
-            second: window_at(windows, 1),
-            third: window_at(windows, 2),
-            fourth: window_at(windows, 3),
-        }
+        row_from(from, to, windows)
     }
 
     // Window w of the row, both ends missing where there is none.

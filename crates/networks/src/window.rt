@@ -8,40 +8,42 @@ pub struct Window<S> {
 }
 
 impl<S> Window<S> {
-    pub fn between(low: S, high: S) -> Window<S>
-        ensures { result ≡ record { low = Some low; high = Some high } }
-    {
-        Window {
-            low: Some(low),
-            high: Some(high),
-        }
-    }
-
-    pub fn at_least(low: S) -> Window<S>
-        ensures { result ≡ record { low = Some low; high = None } }
-    {
-        Window {
-            low: Some(low),
-            high: None,
-        }
-    }
-
-    pub fn at_most(high: S) -> Window<S>
-        ensures { result ≡ record { low = None; high = Some high } }
-    {
-        Window {
-            low: None,
-            high: Some(high),
-        }
-    }
-
     // Any distance.
-    pub fn any() -> Window<S>
+    pub(crate) fn any() -> Window<S>
         ensures { result ≡ record { low = None; high = None } }
     {
         Window {
             low: None,
             high: None,
+        }
+    }
+}
+
+impl<S: Copy> Window<S> {
+    pub fn at_least(least: S) -> Window<S>
+        ensures { result ≡ record { low = Some least; high = None } }
+    {
+        Window {
+            low: Some(least),
+            ..Window::any()
+        }
+    }
+
+    pub fn at_most(most: S) -> Window<S>
+        ensures { result ≡ record { low = None; high = Some most } }
+    {
+        Window {
+            high: Some(most),
+            ..Window::any()
+        }
+    }
+
+    pub fn between(low: S, high: S) -> Window<S>
+        ensures { result ≡ record { low = Some low; high = Some high } }
+    {
+        Window {
+            high: Some(high),
+            ..Window::at_least(low)
         }
     }
 }

@@ -10,6 +10,14 @@ pub struct Minutes {
     pub count: i64,
 }
 
+impl From<i64> for Minutes {
+    ghost from_gives = { λ count minutes. minutes.count ≡ count };
+
+    fn from(count: i64) -> Minutes {
+        Minutes { count }
+    }
+}
+
 impl Span for Minutes {
     ghost kind = { minute_kind };
 

@@ -15,6 +15,18 @@ pub struct Pair<A, B> {
 // The minute of an event and its rank among the events inside that minute.
 pub type MinuteRank = Pair<Minutes, Minutes>;
 
+// From a minute and a rank.
+impl From<(i64, i64)> for Pair<Minutes, Minutes> {
+    ghost from_gives = { λ counts pair. (pair.first.count ≡ counts.0) × (pair.second.count ≡ counts.1) };
+
+    fn from((minute, rank): (i64, i64)) -> MinuteRank {
+        Pair {
+            first: Minutes::from(minute),
+            second: Minutes::from(rank),
+        }
+    }
+}
+
 impl<A: Span, B: Span> Span for Pair<A, B> {
     ghost kind = { pair_kind A.Span.kind B.Span.kind };
 
