@@ -1,6 +1,6 @@
 // What tighten answers and leaves in memory, held against expected numbers.
 use distances::tighten;
-use networks::{Fault, Source};
+use networks::{Fault, Row, Source, Window};
 use spans::{Minutes, Span};
 use std::process::Abort;
 use std::test::Fail;
@@ -15,21 +15,20 @@ pub const OLD_CODE: u16 = 7777;
 // An entry that is blank.
 pub const NO: i64 = -999999;
 
+// A condition with one window.
+pub fn row(from: usize, to: usize, low: i64, high: i64) -> Row<Minutes> {
+    Row::new(from, to, &[Window::minutes(low, high)])
+}
+
 // The number and the detail of the refusal; none where there is no refusal.
 pub fn refusal(res: Result<(), Fault>) -> Option<(usize, usize)> {
-    match res {
-        Ok(()) => None,
-        Err(fault) => Some((fault.number(), fault.detail())),
-    }
+    res.err().map(|fault| (fault.number(), fault.detail()))
 }
 
 // Whether the entries are these, row by row, and those behind them are old.
 pub fn check_matrix(rt: &impl Abort, matrix: &[Option<Minutes>], expected: &[i64]) {
     for (place, entry) in matrix.iter().enumerate() {
-        let count = match entry {
-            Some(total) => total.count,
-            None => NO,
-        };
+        let count = entry.map_or(NO, |total| total.count);
         let wanted = expected.get(place).copied().unwrap_or(OLD);
         assert_eq!(rt; (place, count), (place, wanted));
     }
@@ -83,7 +82,7 @@ pub fn total_around<T: Source>(source: &T, codes: &[u16]) -> Option<T::Span> {
         place = to;
         total = total.sum(weight)?;
     }
-    if place == start { Some(total) } else { None }
+    (place == start).then_some(total)
 }
 
 // Of three points: refused with a cycle of three edges, whose codes are given back. The codes add up to this total, the

@@ -1,12 +1,11 @@
 // Networks that tighten grants, with the least totals of all their routes.
 use crate::answers::{
-    NO, OLD_CODE, OLD_ENTRY, check_codes_behind, check_granted, check_matrix, refusal,
+    NO, OLD_CODE, OLD_ENTRY, check_codes_behind, check_granted, check_matrix, refusal, row,
 };
-use crate::windows::{at_least, at_most, minutes, row};
 use distances::tighten;
-use layers::{Hull, HullOver};
+use layers::Hull;
 use list_text::{FromText, ListText};
-use networks::{FromRows, Row, Rows};
+use networks::{Row, Rows, Window};
 use spans::Minutes;
 use std::process::Abort;
 use std::test::Fail;
@@ -74,8 +73,8 @@ fn unreached(rt: HostRuntime) -> Result<(), Fail> {
 #[test]
 fn missing_ends(rt: HostRuntime) -> Result<(), Fail> {
     let rows = [
-        Row::new(0, 1, &[at_most(7)]),
-        Row::new(1, 2, &[at_least(2)]),
+        Row::new(0, 1, &[Window::at_most(Minutes::from(7))]),
+        Row::new(1, 2, &[Window::at_least(Minutes::from(2))]),
     ];
     let expected = [0, 7, NO, NO, 0, NO, NO, -2, 0];
     check_rows(&rt, 3, &rows, &expected)?;
@@ -96,12 +95,16 @@ fn choices(rt: HostRuntime) -> Result<(), Fail> {
     check_rows(
         &rt,
         2,
-        &[Row::new(0, 1, &[minutes(0, 2), minutes(8, 10)])],
+        &[Row::new(0, 1, &[Window::minutes(0, 2), Window::minutes(8, 10)])],
         &[0, 10, 0, 0],
     )?;
     let rows = [
-        Row::new(0, 1, &[minutes(0, 10), minutes(15, 20)]),
-        Row::new(1, 2, &[minutes(5, 6), at_least(9)]),
+        Row::new(0, 1, &[Window::minutes(0, 10), Window::minutes(15, 20)]),
+        Row::new(
+            1,
+            2,
+            &[Window::minutes(5, 6), Window::at_least(Minutes::from(9))],
+        ),
         row(0, 2, 12, 18),
     ];
     let expected = [0, 13, 18, 0, 0, 18, -12, -5, 0];
@@ -121,8 +124,8 @@ fn choices(rt: HostRuntime) -> Result<(), Fail> {
 // 48 points in a chain, each 16777216 minutes after the one before.
 fn chain() -> [Row<Minutes>; 47] {
     let mut rows = [row(0, 1, 16777216, 16777216); 47];
-    for k in 0..47 {
-        rows[k] = row(k, k + 1, 16777216, 16777216);
+    for (k, step) in rows.iter_mut().enumerate() {
+        *step = row(k, k + 1, 16777216, 16777216);
     }
     rows
 }
@@ -130,9 +133,9 @@ fn chain() -> [Row<Minutes>; 47] {
 // In the chain, point j comes 16777216 minutes times j - i after point i.
 fn chain_totals() -> [i64; 2304] {
     let mut totals = [0; 2304];
-    for place in 0..2304 {
+    for (place, total) in totals.iter_mut().enumerate() {
         let steps = (place % 48) as i64 - (place / 48) as i64;
-        totals[place] = steps * 16777216;
+        *total = steps * 16777216;
     }
     totals
 }

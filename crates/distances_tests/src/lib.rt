@@ -7,5 +7,3 @@ mod answers;
 mod granted;
 #[cfg(test)]
 mod refused;
-#[cfg(test)]
-mod windows;

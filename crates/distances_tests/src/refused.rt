@@ -1,12 +1,11 @@
 // Networks that tighten refuses: cycles below zero by their codes, and the refusals of the checks.
 use crate::answers::{
     OLD_CODE, OLD_ENTRY, check_codes_behind, check_contradicted, check_granted, check_refused,
-    refusal, total_around,
+    refusal, row, total_around,
 };
-use crate::windows::{at, minutes, row};
 use distances::tighten;
-use networks::{FromRows, Row, Rows, Window};
-use spans::Minutes;
+use networks::{Row, Rows, Window};
+use spans::{MinuteRank, Minutes};
 use std::test::Fail;
 
 // Two steps of 10 to 20 minutes do not go into 15: at most 15 forward, and twice at least 10 back, 5 below zero.
@@ -20,21 +19,16 @@ fn two_steps(rt: HostRuntime) {
 // Two events of one minute and rank, and the second one a rank later at least: below zero by a rank alone.
 #[test]
 fn by_a_rank(rt: HostRuntime) -> Result<(), Fail> {
-    let five = Window {
-        low: Some(at(5, 0)),
-        high: Some(at(5, 0)),
-    };
-    let later = Window {
-        low: Some(at(0, 1)),
-        high: None,
-    };
+    let at = MinuteRank::from((5, 0));
+    let five = Window::between(at, at);
+    let later = Window::at_least(MinuteRank::from((0, 1)));
     let rows = [
         Row::new(0, 1, &[five]),
         Row::new(0, 2, &[five]),
         Row::new(1, 2, &[later]),
     ];
     let source = Rows::from_rows(3, &rows);
-    let mut matrix = [Some(at(7, 7)); 9];
+    let mut matrix = [Some(MinuteRank::from((7, 7))); 9];
     let mut cycle = [OLD_CODE; 5];
     assert_eq!(rt;
         refusal(tighten(&source, &mut matrix, &mut cycle)),
@@ -80,7 +74,7 @@ fn picked_apart(rt: HostRuntime) -> Result<(), Fail> {
 #[test]
 fn by_the_checks(rt: HostRuntime) {
     let good = row(0, 1, 0, 10);
-    let choice = Row::new(0, 1, &[minutes(0, 10), minutes(11, 20)]);
+    let choice = Row::new(0, 1, &[Window::minutes(0, 10), Window::minutes(11, 20)]);
     let table: [(usize, &[Row<Minutes>], (usize, usize)); 9] = [
         (0, &[], (1, 0)),
         (49, &[good], (1, 0)),

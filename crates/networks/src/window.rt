@@ -1,5 +1,8 @@
 // A window of distances; an end that is missing demands nothing.
 ghost use Rattle.std.specs.Prelude.{◌≡◌, Some, None};
+ghost use Rattle.spans.specs.MinuteKind.{minutes};
+
+use spans::Minutes;
 
 #[derive(Clone, Copy, Debug, PartialEq, Eq, Hash)]
 pub struct Window<S> {
@@ -45,5 +48,13 @@ impl<S: Copy> Window<S> {
             high: Some(high),
             ..Window::at_least(low)
         }
+    }
+}
+
+impl Window<Minutes> {
+    pub fn minutes(low: i64, high: i64) -> Window<Minutes>
+        ensures { result ≡ record { low = Some (minutes low); high = Some (minutes high) } }
+    {
+        Window::between(Minutes::from(low), Minutes::from(high))
     }
 }

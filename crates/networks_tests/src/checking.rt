@@ -1,7 +1,6 @@
 // What the checks of a network refuse, each refusal with its number and detail, and which refusal comes first.
-use crate::windows::{any, at_least, at_most, minutes, ranks};
 use checks::{check, check_network};
-use networks::{Fault, FromRows, Lent, Row, Rows, Window};
+use networks::{Fault, Lent, Row, Rows, Window};
 use spans::{MinuteRank, Minutes};
 
 // Memory that just suffices for 48 points.
@@ -13,10 +12,7 @@ const AMPLE: Lent = Lent {
 
 // The number and the detail of the refusal; none where there is no refusal.
 fn refusal(res: Result<(), Fault>) -> Option<(usize, usize)> {
-    match res {
-        Ok(()) => None,
-        Err(fault) => Some((fault.number(), fault.detail())),
-    }
+    res.err().map(|fault| (fault.number(), fault.detail()))
 }
 
 fn of_rows(points: usize, rows: &[Row<Minutes>]) -> Option<(usize, usize)> {
@@ -24,12 +20,12 @@ fn of_rows(points: usize, rows: &[Row<Minutes>]) -> Option<(usize, usize)> {
 }
 
 fn between(from: usize, to: usize) -> Row<Minutes> {
-    Row::new(from, to, &[minutes(0, 10)])
+    Row::new(from, to, &[Window::minutes(0, 10)])
 }
 
 // A condition with two windows.
 fn choice() -> Row<Minutes> {
-    Row::new(0, 1, &[minutes(0, 10), minutes(11, 20)])
+    Row::new(0, 1, &[Window::minutes(0, 10), Window::minutes(11, 20)])
 }
 
 // Of 48 points and one condition, with memory of these lengths.
@@ -46,7 +42,11 @@ fn of_lent(matrix: usize, cycle: usize, dates: Option<usize>) -> Option<(usize, 
 
 // Of a condition from one minute and rank to another.
 fn of_ranks(low: (i64, i64), high: (i64, i64)) -> Option<(usize, usize)> {
-    let rows: [Row<MinuteRank>; 1] = [Row::new(0, 1, &[ranks(low, high)])];
+    let rows: [Row<MinuteRank>; 1] = [Row::new(
+        0,
+        1,
+        &[Window::between(MinuteRank::from(low), MinuteRank::from(high))],
+    )];
     refusal(check(&Rows::from_rows(2, &rows), AMPLE))
 }
 
@@ -87,17 +87,17 @@ fn points(rt: HostRuntime) {
 #[test]
 fn window_counts(rt: HostRuntime) {
     let [a, b, c, d, e] = [
-        minutes(0, 1),
-        minutes(3, 4),
-        minutes(6, 7),
-        minutes(9, 10),
-        minutes(12, 13),
+        Window::minutes(0, 1),
+        Window::minutes(3, 4),
+        Window::minutes(6, 7),
+        Window::minutes(9, 10),
+        Window::minutes(12, 13),
     ];
     assert_eq!(rt; of_windows(&[]), Some((3, 1)));
     assert_eq!(rt; of_windows(&[a, b, c, d]), None);
     assert_eq!(rt; of_windows(&[a, b, c, d, e]), Some((3, 1)));
     assert_eq!(rt;
-        of_windows(&[b, a, minutes(16777217, 0), d, e]),
+        of_windows(&[b, a, Window::minutes(16777217, 0), d, e]),
         Some((3, 1))
     );
 }
@@ -118,29 +118,52 @@ fn large_ends(rt: HostRuntime) {
         (0, i64::MAX, Some((4, 1))),
     ] {
         assert_eq!(rt;
-            (low, high, of_windows(&[minutes(low, high)])),
+            (low, high, of_windows(&[Window::minutes(low, high)])),
             (low, high, refused)
         );
     }
-    assert_eq!(rt; of_windows(&[at_most(16777216)]), None);
-    assert_eq!(rt; of_windows(&[at_most(16777217)]), Some((4, 1)));
-    assert_eq!(rt; of_windows(&[at_least(-16777217)]), Some((4, 1)));
+    assert_eq!(rt;
+        of_windows(&[Window::at_most(Minutes::from(16777216))]),
+        None
+    );
+    assert_eq!(rt;
+        of_windows(&[Window::at_most(Minutes::from(16777217))]),
+        Some((4, 1))
+    );
+    assert_eq!(rt;
+        of_windows(&[Window::at_least(Minutes::from(-16777217))]),
+        Some((4, 1))
+    );
 }
 
 // No low end lies above its high end, and each high end lies below the next low end.
 #[test]
 fn falling_windows(rt: HostRuntime) {
-    assert_eq!(rt; of_windows(&[minutes(7, 7)]), None);
-    assert_eq!(rt; of_windows(&[minutes(7, 6)]), Some((5, 1)));
-    assert_eq!(rt; of_windows(&[minutes(1, 2), minutes(4, 3)]), Some((5, 1)));
-    assert_eq!(rt; of_windows(&[minutes(0, 10), minutes(11, 20)]), None);
+    assert_eq!(rt; of_windows(&[Window::minutes(7, 7)]), None);
+    assert_eq!(rt; of_windows(&[Window::minutes(7, 6)]), Some((5, 1)));
     assert_eq!(rt;
-        of_windows(&[minutes(0, 10), minutes(10, 20)]),
+        of_windows(&[Window::minutes(1, 2), Window::minutes(4, 3)]),
         Some((5, 1))
     );
-    assert_eq!(rt; of_windows(&[minutes(10, 20), minutes(0, 5)]), Some((5, 1)));
     assert_eq!(rt;
-        of_windows(&[minutes(0, 1), minutes(2, 3), minutes(4, 5), minutes(5, 6)]),
+        of_windows(&[Window::minutes(0, 10), Window::minutes(11, 20)]),
+        None
+    );
+    assert_eq!(rt;
+        of_windows(&[Window::minutes(0, 10), Window::minutes(10, 20)]),
+        Some((5, 1))
+    );
+    assert_eq!(rt;
+        of_windows(&[Window::minutes(10, 20), Window::minutes(0, 5)]),
+        Some((5, 1))
+    );
+    assert_eq!(rt;
+        of_windows(&[
+            Window::minutes(0, 1),
+            Window::minutes(2, 3),
+            Window::minutes(4, 5),
+            Window::minutes(5, 6)
+        ]),
         Some((5, 1))
     );
 }
@@ -148,16 +171,43 @@ fn falling_windows(rt: HostRuntime) {
 // Only the first window may lack its low end, and only the last one its high end.
 #[test]
 fn missing_ends(rt: HostRuntime) {
-    assert_eq!(rt; of_windows(&[any()]), None);
-    assert_eq!(rt; of_windows(&[at_most(0), minutes(1, 2), at_least(3)]), None);
-    assert_eq!(rt; of_windows(&[at_least(0), minutes(20, 30)]), Some((5, 1)));
-    assert_eq!(rt; of_windows(&[minutes(0, 10), at_most(30)]), Some((5, 1)));
     assert_eq!(rt;
-        of_windows(&[at_most(0), at_least(1), at_least(3)]),
+        of_windows(&[Window {
+            low: None,
+            high: None
+        }]),
+        None
+    );
+    assert_eq!(rt;
+        of_windows(&[
+            Window::at_most(Minutes::from(0)),
+            Window::minutes(1, 2),
+            Window::at_least(Minutes::from(3))
+        ]),
+        None
+    );
+    assert_eq!(rt;
+        of_windows(&[Window::at_least(Minutes::from(0)), Window::minutes(20, 30)]),
         Some((5, 1))
     );
     assert_eq!(rt;
-        of_windows(&[at_most(0), at_most(2), at_least(3)]),
+        of_windows(&[Window::minutes(0, 10), Window::at_most(Minutes::from(30))]),
+        Some((5, 1))
+    );
+    assert_eq!(rt;
+        of_windows(&[
+            Window::at_most(Minutes::from(0)),
+            Window::at_least(Minutes::from(1)),
+            Window::at_least(Minutes::from(3))
+        ]),
+        Some((5, 1))
+    );
+    assert_eq!(rt;
+        of_windows(&[
+            Window::at_most(Minutes::from(0)),
+            Window::at_most(Minutes::from(2)),
+            Window::at_least(Minutes::from(3))
+        ]),
         Some((5, 1))
     );
 }
@@ -166,11 +216,15 @@ fn missing_ends(rt: HostRuntime) {
 #[test]
 fn first_refusal(rt: HostRuntime) {
     assert_eq!(rt;
-        of_windows(&[minutes(10, 20), minutes(0, 5), minutes(30, 16777217)]),
+        of_windows(&[
+            Window::minutes(10, 20),
+            Window::minutes(0, 5),
+            Window::minutes(30, 16777217)
+        ]),
         Some((4, 1))
     );
     assert_eq!(rt; of_rows(2, &[Row::new(1, 1, &[])]), Some((2, 0)));
-    let falling = Row::new(0, 1, &[minutes(7, 6)]);
+    let falling = Row::new(0, 1, &[Window::minutes(7, 6)]);
     assert_eq!(rt; of_rows(2, &[falling, between(0, 2)]), Some((5, 0)));
     let mut rows = [between(0, 1); 70];
     rows[66] = falling;

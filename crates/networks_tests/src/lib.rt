@@ -5,5 +5,3 @@
 mod checking;
 #[cfg(test)]
 mod sources;
-#[cfg(test)]
-mod windows;

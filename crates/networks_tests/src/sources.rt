@@ -1,22 +1,15 @@
 // What rows answer, and what the layers over them make of their answers.
-use crate::windows::{at_least, minutes, ranks};
-use layers::{Chosen, ChosenOver, Hull, HullOver, Selected, SelectedOver};
-use networks::{FromRows, Row, Rows, Source, Window};
+use layers::{Chosen, Hull, Selected};
+use networks::{Row, Rows, Source, Window};
 use spans::{MinuteRank, Minutes};
 use std::process::Abort;
 
 fn count(span: Option<Minutes>) -> Option<i64> {
-    match span {
-        Some(a) => Some(a.count),
-        None => None,
-    }
+    span.map(|a| a.count)
 }
 
 fn parts(span: Option<MinuteRank>) -> Option<(i64, i64)> {
-    match span {
-        Some(a) => Some((a.first.count, a.second.count)),
-        None => None,
-    }
+    span.map(|a| (a.first.count, a.second.count))
 }
 
 // Of one condition: its two points, the number of its windows, and the two ends of one of them.
@@ -55,15 +48,23 @@ fn hull_of_selected<T: Source>(source: &T, number: u8, k: usize) -> Window<T::Sp
 // A condition with three windows, one whose windows fall, one without windows, and one with five.
 fn four() -> [Row<Minutes>; 4] {
     let five = [
-        minutes(0, 1),
-        minutes(3, 4),
-        minutes(6, 7),
-        minutes(9, 10),
-        minutes(12, 13),
+        Window::minutes(0, 1),
+        Window::minutes(3, 4),
+        Window::minutes(6, 7),
+        Window::minutes(9, 10),
+        Window::minutes(12, 13),
     ];
     [
-        Row::new(0, 1, &[minutes(0, 1), minutes(5, 6), at_least(8)]),
-        Row::new(1, 2, &[minutes(10, 20), minutes(0, 5)]),
+        Row::new(
+            0,
+            1,
+            &[
+                Window::minutes(0, 1),
+                Window::minutes(5, 6),
+                Window::at_least(Minutes::from(8)),
+            ],
+        ),
+        Row::new(1, 2, &[Window::minutes(10, 20), Window::minutes(0, 5)]),
         Row::new(2, 0, &[]),
         Row::new(2, 1, &five),
     ]
@@ -116,8 +117,8 @@ fn hulls(rt: HostRuntime) {
 // A selection keeps the window with the given number, and none where there is no such window or no number.
 #[test]
 fn selections(rt: HostRuntime) {
-    let mut rows = [Row::new(2, 1, &[minutes(7, 9)]); 66];
-    rows[0] = Row::new(0, 1, &[minutes(0, 1), minutes(5, 6)]);
+    let mut rows = [Row::new(2, 1, &[Window::minutes(7, 9)]); 66];
+    rows[0] = Row::new(0, 1, &[Window::minutes(0, 1), Window::minutes(5, 6)]);
     let mut numbers = [0; 64];
     numbers[0] = 1;
     numbers[1] = 1;
@@ -142,7 +143,15 @@ fn selections(rt: HostRuntime) {
 // Below the place the selected window, if a number selects one; from the place on the hull.
 #[test]
 fn partly_selected(rt: HostRuntime) {
-    let rows = [Row::new(2, 1, &[minutes(0, 1), minutes(5, 6), minutes(8, 9)]); 66];
+    let rows = [Row::new(
+        2,
+        1,
+        &[
+            Window::minutes(0, 1),
+            Window::minutes(5, 6),
+            Window::minutes(8, 9),
+        ],
+    ); 66];
     let chosen = Chosen::over(Rows::from_rows(3, &rows), [1; 64], 65);
     assert_eq!(rt; (chosen.points(), chosen.conditions()), (3, 66));
     check_told(
@@ -164,7 +173,14 @@ fn piles(rt: HostRuntime) {
     let rows = four();
     let kept = hull_of_selected(&Rows::from_rows(3, &rows), 1, 1);
     assert_eq!(rt; (count(kept.low), count(kept.high)), (Some(0), Some(5)));
-    let ranked = [Row::new(0, 1, &[ranks((5, 0), (5, 1)), ranks((6, -2), (7, 3))])];
+    let ranked = [Row::new(
+        0,
+        1,
+        &[
+            Window::between(MinuteRank::from((5, 0)), MinuteRank::from((5, 1))),
+            Window::between(MinuteRank::from((6, -2)), MinuteRank::from((7, 3))),
+        ],
+    )];
     let kept = hull_of_selected(&Rows::from_rows(2, &ranked), 1, 0);
     assert_eq!(rt;
         (parts(kept.low), parts(kept.high)),

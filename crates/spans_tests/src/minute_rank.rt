@@ -1,22 +1,8 @@
 // A minute and a rank inside it: the minute is compared first, and the larger part is the size.
-use spans::{MinuteRank, Minutes, Pair, Span};
-
-fn at((minute, rank): (i64, i64)) -> MinuteRank {
-    Pair {
-        first: Minutes { count: minute },
-        second: Minutes { count: rank },
-    }
-}
+use spans::{MinuteRank, Span};
 
 fn parts(span: MinuteRank) -> (i64, i64) {
     (span.first.count, span.second.count)
-}
-
-fn parts_in(span: Option<MinuteRank>) -> Option<(i64, i64)> {
-    match span {
-        Some(a) => Some(parts(a)),
-        None => None,
-    }
 }
 
 #[test]
@@ -28,7 +14,7 @@ fn sizes(rt: HostRuntime) {
         ((0, i64::MIN), 9223372036854775808),
         ((i64::MAX, i64::MAX), 9223372036854775807),
     ] {
-        assert_eq!(rt; (a, at(a).size()), (a, size));
+        assert_eq!(rt; (a, MinuteRank::from(a).size()), (a, size));
     }
     assert_eq!(rt; parts(MinuteRank::zero()), (0, 0));
     assert_eq!(rt; parts(MinuteRank::step()), (0, 1));
@@ -44,7 +30,10 @@ fn order(rt: HostRuntime) {
         ((5, 1), (5, 0), false),
         ((5, 1), (5, 1), false),
     ] {
-        assert_eq!(rt; (a, b, at(a).is_less(at(b))), (a, b, less));
+        assert_eq!(rt;
+            (a, b, MinuteRank::from(a).is_less(MinuteRank::from(b))),
+            (a, b, less)
+        );
     }
 }
 
@@ -60,7 +49,14 @@ fn sums_and_opposites(rt: HostRuntime) {
         ((0, 1), (-4398046511104, 0), None),
         ((i64::MIN, 0), (0, i64::MIN), None),
     ] {
-        assert_eq!(rt; (a, b, parts_in(at(a).sum(at(b)))), (a, b, sum));
+        assert_eq!(rt;
+            (
+                a,
+                b,
+                MinuteRank::from(a).sum(MinuteRank::from(b)).map(parts)
+            ),
+            (a, b, sum)
+        );
     }
     for (a, opposite) in [
         ((5, -3), Some((-5, 3))),
@@ -72,6 +68,9 @@ fn sums_and_opposites(rt: HostRuntime) {
         ((4398046511105, 0), None),
         ((i64::MIN, 0), None),
     ] {
-        assert_eq!(rt; (a, parts_in(at(a).opposite())), (a, opposite));
+        assert_eq!(rt;
+            (a, MinuteRank::from(a).opposite().map(parts)),
+            (a, opposite)
+        );
     }
 }

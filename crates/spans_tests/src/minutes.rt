@@ -1,17 +1,6 @@
 // Minutes: sizes, order, sums and opposites, above all where they begin to be missing.
 use spans::{Minutes, Span};
 
-fn minutes(count: i64) -> Minutes {
-    Minutes { count }
-}
-
-fn count(span: Option<Minutes>) -> Option<i64> {
-    match span {
-        Some(a) => Some(a.count),
-        None => None,
-    }
-}
-
 // A size is the absolute value, of the least number too.
 #[test]
 fn sizes(rt: HostRuntime) {
@@ -22,7 +11,7 @@ fn sizes(rt: HostRuntime) {
         (i64::MAX, 9223372036854775807),
         (i64::MIN, 9223372036854775808),
     ] {
-        assert_eq!(rt; (a, minutes(a).size()), (a, size));
+        assert_eq!(rt; (a, Minutes::from(a).size()), (a, size));
     }
     assert_eq!(rt; Minutes::zero().count, 0);
     assert_eq!(rt; Minutes::step().count, 1);
@@ -39,7 +28,10 @@ fn order(rt: HostRuntime) {
         (i64::MIN, i64::MAX, true),
         (i64::MAX, i64::MIN, false),
     ] {
-        assert_eq!(rt; (a, b, minutes(a).is_less(minutes(b))), (a, b, less));
+        assert_eq!(rt;
+            (a, b, Minutes::from(a).is_less(Minutes::from(b))),
+            (a, b, less)
+        );
     }
 }
 
@@ -63,7 +55,14 @@ fn sums_and_opposites(rt: HostRuntime) {
         (i64::MIN, i64::MIN, None),
         (i64::MAX, i64::MAX, None),
     ] {
-        assert_eq!(rt; (a, b, count(minutes(a).sum(minutes(b)))), (a, b, sum));
+        assert_eq!(rt;
+            (
+                a,
+                b,
+                Minutes::from(a).sum(Minutes::from(b)).map(|sum| sum.count)
+            ),
+            (a, b, sum)
+        );
     }
     for (a, opposite) in [
         (0, Some(0)),
@@ -75,6 +74,12 @@ fn sums_and_opposites(rt: HostRuntime) {
         (i64::MAX, None),
         (i64::MIN, None),
     ] {
-        assert_eq!(rt; (a, count(minutes(a).opposite())), (a, opposite));
+        assert_eq!(rt;
+            (
+                a,
+                Minutes::from(a).opposite().map(|opposite| opposite.count)
+            ),
+            (a, opposite)
+        );
     }
 }
