@@ -4,7 +4,7 @@ use crate::answers::{
 };
 use crate::windows::{at_least, at_most, minutes, row};
 use distances::tighten;
-use layers::{Hull, HullOver};
+use layers::Hull;
 use list_text::{FromText, ListText};
 use networks::{FromRows, Row, Rows};
 use spans::Minutes;

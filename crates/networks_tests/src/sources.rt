@@ -1,6 +1,6 @@
 // What rows answer, and what the layers over them make of their answers.
 use crate::windows::{at_least, minutes, ranks};
-use layers::{Chosen, ChosenOver, Hull, HullOver, Selected, SelectedOver};
+use layers::{Chosen, Hull, Selected};
 use networks::{FromRows, Row, Rows, Source, Window};
 use spans::{MinuteRank, Minutes};
 use std::process::Abort;
