@@ -1,8 +1,8 @@
 -- What each question finds under the hull layer. Assumes nothing.
-use Rattle.std.proofs.Common.{◌≡◌, ℕ, zero, suc, ◌+◌, ◌-◌, ◌<◌, ◌≤◌, List, [], ◌∷◌, map, length, get_or, sym, refl, ap, ◌∙◌, arith}
+use Rattle.std.proofs.Common.{◌≡◌, ℕ, ◌+◌, ◌-◌, ◌<◌, ◌≤◌, List, [], ◌∷◌, length, get_or, sym, refl, ap, ◌∙◌, arith}
 use Rattle.std.proofs.lemmas.List.{get_or_past}
 use Rattle.networks.specs.declared.window.Window.{Window}
-use Rattle.networks.specs.Network.{Condition, Network, no_condition, open_window, condition_at, window_of}
+use Rattle.networks.specs.Network.{Condition, Network, open_window, condition_at, window_of}
 use Rattle.networks.specs.Hull.{last_high, hull_windows_lem, hull, hulls}
 pub use Rattle.layers.specs.Alike.{hull_at, hull_points}
 
@@ -66,6 +66,3 @@ module _ {S : Type 0} (N : Network S) (k : ℕ) where
         let s = at_most_one (condition_at N k).windows in
         let e : length (condition_at (hulls N) k).windows ≡ length (hull_windows_lem (condition_at N k).windows) = ap (λ (c : Condition S). length c.windows) (hull_at N k) in
         hull_past (omega arith)
-
-    pub hull_empty : length (condition_at N k).windows ≤ 0 → open_window ≡ window_of (condition_at (hulls N) k) w
-    hull_empty h = let e = hull_none (omega arith) in hull_past (omega arith)

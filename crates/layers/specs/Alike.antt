@@ -1,6 +1,7 @@
--- Each rule of the layers leaves what conditions join: lemmas, proved, and nothing to believe. They stand here since an impl names no other.
-use Rattle.std.specs.Prelude.{◌≡◌, ℕ, zero, suc, ◌<◌, ◌≤◌, List, [], ◌∷◌, ◌++◌, map, length, take, drop, refl}
+-- Each rule of a layer leaves what the conditions join: lemmas by which the rules show their laws. Assumes nothing.
+use Rattle.std.specs.Prelude.{◌≡◌, ℕ, zero, suc, ◌<◌, ◌≤◌, List, [], ◌∷◌, ◌++◌, length, take, drop, refl}
 use Rattle.std.proofs.Common.{get_or, sym, ap, ◌∙◌, inl, inr, arith, length-append, length-drop, length-take}
+use Rattle.std.proofs.Math.ListN.{get_or-map}
 use Rattle.std.proofs.lemmas.List.{length-map}
 use Rattle.std.proofs.lemmas.Bool.{le-ltb, cases_lt}
 use Rattle.networks.specs.Network.{Condition, Network, no_condition, condition_at}
@@ -9,14 +10,9 @@ use Rattle.networks.specs.Hull.{hull, hulls}
 use Rattle.networks.specs.Selection.{only, without_windows, selected_conditions, selected, chosen}
 
 -- ---- condition k under the hull layer
-pub getD_map_same : {X Y : Type 0} (f : X → Y) (xs : List X) (k : ℕ) (d : X) → get_or (map f xs) k (f d) ≡ f (get_or xs k d)
-getD_map_same f [] k d = refl
-getD_map_same f (x ∷ xs) zero d = refl
-getD_map_same f (x ∷ xs) (suc k) d = getD_map_same f xs k d
-
 module _ {S : Type 0} (N : Network S) (k : ℕ) where
   pub hull_at : condition_at (hulls N) k ≡ hull (condition_at N k)
-  hull_at = getD_map_same hull N.conditions k no_condition
+  hull_at = get_or-map hull N.conditions k no_condition
 
   pub hull_points : JoinsAlike (hulls N) N k
   hull_points = record {

@@ -34,7 +34,11 @@ impl<T: Source> Rule<T> for PartSelection {
 
     ghost same_points = { λ r N. refl };
 
-    ghost joins_alike = { λ r N k. chosen_points N r.selection.windows r.place k };
+    ghost same_count = { λ r N. (chosen_points N r.selection.windows r.place 0).same_count };
+
+    ghost same_from = { λ r N k. (chosen_points N r.selection.windows r.place k).same_from };
+
+    ghost same_to = { λ r N k. (chosen_points N r.selection.windows r.place k).same_to };
 
     fn windows(&self, under: &T, k: usize) -> usize {
         if k < self.place {

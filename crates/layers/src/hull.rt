@@ -28,7 +28,11 @@ impl<T: Source> Rule<T> for EachHull {
 
     ghost same_points = { λ r N. refl };
 
-    ghost joins_alike = { λ r N k. hull_points N k };
+    ghost same_count = { λ r N. (hull_points N 0).same_count };
+
+    ghost same_from = { λ r N k. (hull_points N k).same_from };
+
+    ghost same_to = { λ r N k. (hull_points N k).same_to };
 
     // None without windows, else one.
     fn windows(&self, under: &T, k: usize) -> usize {

@@ -1,7 +1,6 @@
 // A layer over a source: a rule makes something of its windows; its points, and what conditions join, stay.
 ghost use Rattle.std.specs.Prelude.{◌≡◌, ℕ, length};
 ghost use Rattle.networks.specs.Network.{Network, condition_at, window_of};
-ghost use Rattle.networks.specs.Steps.{JoinsAlike};
 
 use networks::Source;
 
@@ -19,11 +18,14 @@ pub trait Rule<T: Source> {
     fn high(&self, under: &T, k: usize, w: usize) -> Option<T::Span>
         ensures { result ≡ (window_of (condition_at (made self.now (T.Source.means under.now)) k) w).high };
 
-    // It leaves the points.
+    // It leaves the points, and what each condition joins.
     ghost same_points: { (r : Self) (N : Network T.Span) → (made r N).points ≡ N.points };
 
-    // It leaves what each condition joins.
-    ghost joins_alike: { (r : Self) (N : Network T.Span) (k : ℕ) → JoinsAlike (made r N) N k };
+    ghost same_count: { (r : Self) (N : Network T.Span) → length (made r N).conditions ≡ length N.conditions };
+
+    ghost same_from: { (r : Self) (N : Network T.Span) (k : ℕ) → (condition_at (made r N) k).from ≡ (condition_at N k).from };
+
+    ghost same_to: { (r : Self) (N : Network T.Span) (k : ℕ) → (condition_at (made r N) k).to ≡ (condition_at N k).to };
 }
 
 #[derive(Drop)]

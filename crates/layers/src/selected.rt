@@ -50,7 +50,11 @@ impl<T: Source> Rule<T> for Selection {
 
     ghost same_points = { λ r N. refl };
 
-    ghost joins_alike = { λ r N k. selected_points N r.windows k };
+    ghost same_count = { λ r N. (selected_points N r.windows 0).same_count };
+
+    ghost same_from = { λ r N k. (selected_points N r.windows k).same_from };
+
+    ghost same_to = { λ r N k. (selected_points N r.windows k).same_to };
 
     // One where the selected one is there, else none.
     fn windows(&self, under: &T, k: usize) -> usize {
