@@ -1,14 +1,11 @@
--- The checks go through a list from its front: one step, and the end. Assumes nothing.
+-- The checks go through a list from its front, or by its numbers. Assumes nothing.
 use Rattle.std.proofs.Common.{◌≡◌, ℕ, suc, ◌+◌, ◌<◌, ◌≤◌, Bool, true, false, cond, ◌&&◌, ltb, List, [], ◌∷◌, length, get_or, drop, filter, Some, None, Option, sym, refl, ap, ◌∙◌, arith}
 use Rattle.std.specs.List.{list_all, range_with_len}
 use Rattle.std.proofs.lemmas.List.{at_drop_more, at_drop_all}
 use Rattle.spans.specs.Kind.{Kind}
 use Rattle.networks.specs.declared.window.Window.{Window}
-use Rattle.networks.specs.Network.{Condition, open_window, no_condition}
-use Rattle.networks.specs.Refusal.{Refusal, or_else, small, in_order, leaves_gap, before, choices, condition_refusal, conditions_refusal}
-
-pub and_true : (a b : Bool) → a ≡ true → (a && b) ≡ b
-and_true a b e = rw e
+use Rattle.networks.specs.Network.{Condition, no_condition}
+use Rattle.networks.specs.Refusal.{Refusal, or_else, small, in_order, before, choices, condition_refusal, conditions_refusal}
 
 -- ---- a test of each number of a range, where the list tests each element and what comes after it
 module _ {X : Type 0} (F : List X → Bool) (P : X → List X → Bool) (end : F [] ≡ true)
@@ -39,13 +36,6 @@ module _ {S : Type 0} (K : Kind S) where
 
   abbrev pub rises_here : Window S → List (Window S) → Bool
   rises_here w ws = in_order K w.low w.high && before K w ws
-
-  module _ (v : Window S) (ws : List (Window S)) (i : ℕ) where
-    pub before_next : i < length ws → before K v (drop i ws) ≡ leaves_gap K v.high (get_or ws i open_window).low
-    before_next h = at_drop_more (before K v) ws i open_window h
-
-    pub before_none : length ws ≤ i → before K v (drop i ws) ≡ true
-    before_none h = at_drop_all (before K v) ws i h
 
 -- ---- the first refusal of the conditions from k on
 module _ {S : Type 0} (K : Kind S) (n k : ℕ) (cs : List (Condition S)) (all : Option Refusal)

@@ -45,14 +45,7 @@ fn window_rises<T: Source>(source: &T, k: usize, w: usize, count: usize) -> bool
         && before T.Span.Span.kind (window_of (condition_at (T.Source.means source.now) k) w) (drop (w + 1) (condition_at (T.Source.means source.now) k).windows)) }
 {
     let high = source.high(k, w);
-    if !is_in_order(source.low(k, w), high) {
-        return false;
-    }
-    if w + 1 < count {
-        has_gap(high, source.low(k, w + 1))
-    } else {
-        true
-    }
+    is_in_order(source.low(k, w), high) && (w + 1 >= count || has_gap(high, source.low(k, w + 1)))
 }
 
 pub(crate) fn windows_rise<T: Source>(source: &T, k: usize) -> bool

@@ -1,8 +1,8 @@
-use Rattle.std.proofs.Common.{rules, tests, arith, ℕ, refl, drop, ◌+◌, ◌&&◌}
+use Rattle.std.proofs.Common.{rules, tests, arith, ℕ, refl, drop, ◌+◌}
 use Rattle.std.proofs.lemmas.Iterator.{YieldsList-from_range}
 use Rattle.std.proofs.lemmas.Iterator.Search.{all_from_yields_List}
 use Rattle.networks.specs.Network.{condition_at, window_of, open_window}
-use Rattle.networks.specs.Refusal.{small, rises}
+use Rattle.networks.specs.Refusal.{rises}
 use Rattle.checks.proofs.Walks.{all_tested, rises_here}
 use Rattle.checks.proofs.windows.windows_rise.Goals as goal
 

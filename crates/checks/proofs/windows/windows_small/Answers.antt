@@ -1,4 +1,4 @@
-use Rattle.std.proofs.Common.{rules, tests, arith, ℕ, refl, drop, ◌+◌, ◌&&◌}
+use Rattle.std.proofs.Common.{rules, tests, arith, ℕ, refl, ◌&&◌}
 use Rattle.std.proofs.lemmas.Iterator.{YieldsList-from_range}
 use Rattle.std.proofs.lemmas.Iterator.Search.{all_from_yields_List}
 use Rattle.networks.specs.Network.{condition_at, window_of, open_window}
