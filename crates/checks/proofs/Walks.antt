@@ -1,11 +1,10 @@
--- The checks go through a list from its front, or by its numbers. Assumes nothing.
-use Rattle.std.proofs.Common.{◌≡◌, ℕ, suc, ◌+◌, ◌<◌, ◌≤◌, Bool, true, false, cond, ◌&&◌, ltb, List, [], ◌∷◌, length, get_or, drop, filter, Some, None, Option, sym, refl, ap, ◌∙◌, arith}
+-- The checks go through a list by its numbers. Assumes nothing.
+use Rattle.std.proofs.Common.{◌≡◌, ℕ, suc, ◌+◌, ◌<◌, Bool, true, false, cond, ◌&&◌, ltb, List, [], ◌∷◌, length, get_or, drop, filter, sym, refl, ap, ◌∙◌, arith}
 use Rattle.std.specs.List.{list_all, range_with_len}
-use Rattle.std.proofs.lemmas.List.{at_drop_more, at_drop_all}
 use Rattle.spans.specs.Kind.{Kind}
 use Rattle.networks.specs.declared.window.Window.{Window}
 use Rattle.networks.specs.Network.{Condition, no_condition}
-use Rattle.networks.specs.Refusal.{Refusal, or_else, small, in_order, before, choices, condition_refusal, conditions_refusal}
+use Rattle.networks.specs.Refusal.{small, in_order, before, choices}
 
 -- ---- a test of each number of a range, where the list tests each element and what comes after it
 module _ {X : Type 0} (F : List X → Bool) (P : X → List X → Bool) (end : F [] ≡ true)
@@ -36,24 +35,6 @@ module _ {S : Type 0} (K : Kind S) where
 
   abbrev pub rises_here : Window S → List (Window S) → Bool
   rises_here w ws = in_order K w.low w.high && before K w ws
-
--- ---- the first refusal of the conditions from k on
-module _ {S : Type 0} (K : Kind S) (n k : ℕ) (cs : List (Condition S)) (all : Option Refusal)
-    (so_far : conditions_refusal K n k (drop k cs) ≡ all) where
-  refusal_here : k < length cs → conditions_refusal K n k (drop k cs)
-      ≡ or_else (condition_refusal K n k (get_or cs k no_condition)) (conditions_refusal K n (k + 1) (drop (k + 1) cs))
-  refusal_here h = at_drop_more (conditions_refusal K n k) cs k no_condition h
-
-  pub none_here : k < length cs → condition_refusal K n k (get_or cs k no_condition) ≡ None → conditions_refusal K n (k + 1) (drop (k + 1) cs) ≡ all
-  none_here h e =
-      ap (λ (o : Option Refusal). or_else o (conditions_refusal K n (k + 1) (drop (k + 1) cs))) (sym e) ∙ sym (refusal_here h) ∙ so_far
-
-  pub refused_here : (q : Refusal) → k < length cs → condition_refusal K n k (get_or cs k no_condition) ≡ Some q → Some q ≡ all
-  refused_here q h e =
-      ap (λ (o : Option Refusal). or_else o (conditions_refusal K n (k + 1) (drop (k + 1) cs))) (sym e) ∙ sym (refusal_here h) ∙ so_far
-
-  pub none_left : length cs ≤ k → None ≡ all
-  none_left h = sym (at_drop_all (conditions_refusal K n k) cs k h) ∙ so_far
 
 -- ---- the choice conditions counted by number
 one_more : (t : Bool) (k n : ℕ) (ks : List ℕ) → length ks ≡ n → length (cond t (k ∷ ks) ks) ≡ cond t 1 0 + n
