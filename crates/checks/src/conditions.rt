@@ -41,11 +41,7 @@ pub(crate) fn check_conditions<T: Source>(source: &T) -> Result<(), Fault>
 pub(crate) fn count_choices<T: Source>(source: &T) -> usize
     ensures { result ≡ choices (T.Source.means source.now).conditions }
 {
-    let mut count = 0;
-    for k in 0..source.conditions() {
-        if source.windows(k) > 1 {
-            count += 1;
-        }
-    }
-    count
+    (0..source.conditions())
+        .filter(|&k| source.windows(k) > 1)
+        .count()
 }

@@ -9,7 +9,8 @@ use crate::conditions::{check_conditions, count_choices};
 use networks::{Fault, MOST_CHOICES, MOST_CONDITIONS, MOST_POINTS, Source};
 use spans::Span;
 
-pub(crate) fn check_points(points: usize) -> Result<(), Fault>
+// Check 1 alone.
+pub fn check_points(points: usize) -> Result<(), Fault>
     ensures { refusal_in result ≡ points_refusal points }
 {
     if points == 0 || points > MOST_POINTS {

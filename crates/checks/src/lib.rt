@@ -3,7 +3,7 @@
 
 ghost use Rattle.std.specs.Prelude.{◌≡◌, true, is_ok};
 ghost use Rattle.networks.specs.Limits.{most_conditions};
-ghost use Rattle.networks.specs.Refusal.{points_refusal, checks_refusal};
+ghost use Rattle.networks.specs.Refusal.{checks_refusal};
 ghost use Rattle.networks.specs.Faults.{refusal_in};
 ghost use Rattle.networks.specs.Legal.{Legal, Checked};
 
@@ -16,14 +16,8 @@ mod memory;
 mod windows;
 
 use counts::check_counted;
+pub use counts::check_points;
 use memory::check_memory;
-
-// Check 1 alone.
-pub fn check_points(points: usize) -> Result<(), Fault>
-    ensures { refusal_in result ≡ points_refusal points }
-{
-    counts::check_points(points)
-}
 
 // The checks 1 to 7 of a source by itself.
 pub fn check_network<T: Source>(source: &T) -> Result<(), Fault>

@@ -8,19 +8,15 @@ use networks::{Fault, Lent};
 fn dates_fit(points: usize, dates: Option<usize>) -> bool
     ensures { result ≡ dates_fit_lem points dates }
 {
-    match dates {
-        Some(length) => points <= length,
-        None => true,
-    }
+    dates.is_none_or(|length| points <= length)
 }
 
 fn matrix_fits(points: usize, matrix: usize) -> bool
     ensures { result ≡ nat_le (points * points) matrix }
 {
-    match points.checked_mul(points) {
-        Some(entries) => entries <= matrix,
-        None => false,
-    }
+    points
+        .checked_mul(points)
+        .is_some_and(|entries| entries <= matrix)
 }
 
 pub(crate) fn check_memory(points: usize, lent: Lent) -> Result<(), Fault>

@@ -9,10 +9,7 @@ use spans::Span;
 fn is_small<S: Span>(end: Option<S>) -> bool
     ensures { result ≡ small S.Span.kind end }
 {
-    match end {
-        Some(a) => a.size() <= LARGEST_END,
-        None => true,
-    }
+    end.is_none_or(|a| a.size() <= LARGEST_END)
 }
 
 // Whether both ends of window w are small.
@@ -26,30 +23,19 @@ fn window_small<T: Source>(source: &T, k: usize, w: usize) -> bool
 pub(crate) fn windows_small<T: Source>(source: &T, k: usize) -> bool
     ensures { result ≡ all_small T.Span.Span.kind (condition_at (T.Source.means source.now) k).windows }
 {
-    for w in 0..source.windows(k) {
-        if !window_small(source, k, w) {
-            return false;
-        }
-    }
-    true
+    (0..source.windows(k)).all(|w| window_small(source, k, w))
 }
 
 fn is_in_order<S: Span>(low: Option<S>, high: Option<S>) -> bool
     ensures { result ≡ in_order S.Span.kind low high }
 {
-    match (low, high) {
-        (Some(a), Some(b)) => !b.is_less(a),
-        _ => true,
-    }
+    low.zip(high).is_none_or(|(a, b)| !b.is_less(a))
 }
 
 fn has_gap<S: Span>(high: Option<S>, low: Option<S>) -> bool
     ensures { result ≡ leaves_gap S.Span.kind high low }
 {
-    match (high, low) {
-        (Some(b), Some(a)) => b.is_less(a),
-        _ => false,
-    }
+    high.zip(low).is_some_and(|(b, a)| b.is_less(a))
 }
 
 // Whether window w's ends are in order and the window after it, if there is one, begins above it.
@@ -59,24 +45,12 @@ fn window_rises<T: Source>(source: &T, k: usize, w: usize, count: usize) -> bool
         && before T.Span.Span.kind (window_of (condition_at (T.Source.means source.now) k) w) (drop (w + 1) (condition_at (T.Source.means source.now) k).windows)) }
 {
     let high = source.high(k, w);
-    if !is_in_order(source.low(k, w), high) {
-        return false;
-    }
-    if w + 1 < count {
-        has_gap(high, source.low(k, w + 1))
-    } else {
-        true
-    }
+    is_in_order(source.low(k, w), high) && (w + 1 >= count || has_gap(high, source.low(k, w + 1)))
 }
 
 pub(crate) fn windows_rise<T: Source>(source: &T, k: usize) -> bool
     ensures { result ≡ rises T.Span.Span.kind (condition_at (T.Source.means source.now) k).windows }
 {
     let count = source.windows(k);
-    for w in 0..count {
-        if !window_rises(source, k, w, count) {
-            return false;
-        }
-    }
-    true
+    (0..count).all(|w| window_rises(source, k, w, count))
 }

@@ -8,7 +8,7 @@ ghost use Rattle.distances.specs.Graph.{hull_of};
 ghost use Rattle.distances.specs.Matrix.{table, numbers, Rest};
 
 use crate::matrix::{blank, improve, place};
-use layers::{Hull, HullOver};
+use layers::Hull;
 use networks::Source;
 use spans::Span;
 

@@ -1,15 +1,10 @@
 -- What each question finds under the hull layer. Assumes nothing.
-use Rattle.std.proofs.Common.{◌≡◌, ℕ, zero, suc, ◌+◌, ◌-◌, ◌<◌, ◌≤◌, List, [], ◌∷◌, map, length, get_or, sym, refl, ap, ◌∙◌, arith}
-use Rattle.std.proofs.lemmas.List.{get_or_past, length-map}
+use Rattle.std.proofs.Common.{◌≡◌, ℕ, ◌+◌, ◌-◌, ◌<◌, ◌≤◌, List, [], ◌∷◌, length, get_or, sym, refl, ap, ◌∙◌, arith}
+use Rattle.std.proofs.lemmas.List.{get_or_past}
 use Rattle.networks.specs.declared.window.Window.{Window}
-use Rattle.networks.specs.Network.{Condition, Network, no_condition, open_window, condition_at, window_of}
-use Rattle.networks.specs.Steps.{JoinsAlike}
+use Rattle.networks.specs.Network.{Condition, Network, open_window, condition_at, window_of}
 use Rattle.networks.specs.Hull.{last_high, hull_windows_lem, hull, hulls}
-
-pub getD_map_same : {X Y : Type 0} (f : X → Y) (xs : List X) (k : ℕ) (d : X) → get_or (map f xs) k (f d) ≡ f (get_or xs k d)
-getD_map_same f [] k d = refl
-getD_map_same f (x ∷ xs) zero d = refl
-getD_map_same f (x ∷ xs) (suc k) d = getD_map_same f xs k d
+pub use Rattle.layers.specs.Alike.{hull_at, hull_points}
 
 -- ---- the windows of one hull
 module _ {S : Type 0} where
@@ -42,35 +37,25 @@ module _ {S : Type 0} where
 
 -- ---- condition k under the layer
 module _ {S : Type 0} (N : Network S) (k : ℕ) where
-  pub hull_at : condition_at (hulls N) k ≡ hull (condition_at N k)
-  hull_at = getD_map_same hull N.conditions k no_condition
-
-  pub hull_points : JoinsAlike (hulls N) N k
-  hull_points = record {
-    same_count = length-map N.conditions hull;
-    same_from = ap (λ (c : Condition S). c.from) hull_at;
-    same_to = ap (λ (c : Condition S). c.to) hull_at;
-  }
-
   pub hull_none : length (condition_at N k).windows ≡ 0 → 0 ≡ length (condition_at (hulls N) k).windows
-  hull_none e = none _ e ∙ ap (λ (c : Condition S). length c.windows) (sym hull_at)
+  hull_none e = none _ e ∙ ap (λ (c : Condition S). length c.windows) (sym (hull_at N k))
 
   pub hull_one : (length (condition_at N k).windows ≡ 0 → ⊥) → 1 ≡ length (condition_at (hulls N) k).windows
-  hull_one ne = one _ ne ∙ ap (λ (c : Condition S). length c.windows) (sym hull_at)
+  hull_one ne = one _ ne ∙ ap (λ (c : Condition S). length c.windows) (sym (hull_at N k))
 
   module _ (w : ℕ) where
     pub hull_low_lem : w ≡ 0 → (window_of (condition_at N k) 0).low ≡ (window_of (condition_at (hulls N) k) w).low
     hull_low_lem e =
         first_low (condition_at N k).windows
         ∙ ap (λ (v : ℕ). (window_of (hull (condition_at N k)) v).low) (sym e)
-        ∙ ap (λ (c : Condition S). (window_of c w).low) (sym hull_at)
+        ∙ ap (λ (c : Condition S). (window_of c w).low) (sym (hull_at N k))
 
     pub hull_high_lem : (n : ℕ) → w ≡ 0 → n ≡ length (condition_at N k).windows → 0 < n
         → (window_of (condition_at N k) (n - 1)).high ≡ (window_of (condition_at (hulls N) k) w).high
     hull_high_lem n e l h =
         last_of (condition_at N k).windows (n - 1) (omega arith)
         ∙ ap (λ (v : ℕ). (window_of (hull (condition_at N k)) v).high) (sym e)
-        ∙ ap (λ (c : Condition S). (window_of c w).high) (sym hull_at)
+        ∙ ap (λ (c : Condition S). (window_of c w).high) (sym (hull_at N k))
 
     -- no window of that number
     pub hull_past : length (condition_at (hulls N) k).windows ≤ w → open_window ≡ window_of (condition_at (hulls N) k) w
@@ -79,8 +64,5 @@ module _ {S : Type 0} (N : Network S) (k : ℕ) where
     pub hull_second : (w ≡ 0 → ⊥) → open_window ≡ window_of (condition_at (hulls N) k) w
     hull_second ne =
         let s = at_most_one (condition_at N k).windows in
-        let e : length (condition_at (hulls N) k).windows ≡ length (hull_windows_lem (condition_at N k).windows) = ap (λ (c : Condition S). length c.windows) hull_at in
+        let e : length (condition_at (hulls N) k).windows ≡ length (hull_windows_lem (condition_at N k).windows) = ap (λ (c : Condition S). length c.windows) (hull_at N k) in
         hull_past (omega arith)
-
-    pub hull_empty : length (condition_at N k).windows ≤ 0 → open_window ≡ window_of (condition_at (hulls N) k) w
-    hull_empty h = let e = hull_none (omega arith) in hull_past (omega arith)

@@ -1,93 +1,54 @@
 // The hull layer: each condition of the source below as its hull alone.
-ghost use Rattle.std.specs.Prelude.{◌≡◌, length};
-ghost use Rattle.networks.specs.Network.{condition_at, window_of};
-ghost use Rattle.networks.specs.Steps.{JoinsAlike};
+ghost use Rattle.std.specs.Prelude.{◌≡◌, refl};
 ghost use Rattle.networks.specs.Hull.{hulls};
+ghost use Rattle.layers.specs.Alike.{hull_points};
 
+use crate::layer::{Layer, Rule};
 use networks::Source;
 
-#[derive(Drop)]
-pub struct Hull<T> {
-    under: T,
-}
+#[derive(Clone, Copy)]
+pub struct EachHull;
 
-// A source made of the hulls of another.
-pub trait HullOver<T: Source>: Source<Span = T::Span> {
-    fn over(under: T) -> Self
-        ensures { Self.Source.means result ≡ hulls (T.Source.means under) };
-}
+pub type Hull<T> = Layer<T, EachHull>;
 
-impl<T: Source> HullOver<T> for Hull<T> {
-    fn over(under: T) -> Hull<T> {
-        Hull { under }
-    }
-}
-
-// How many windows the hull of condition k has: none without windows, else one.
-pub(crate) fn hull_windows<T: Source>(under: &T, k: usize) -> usize
-    ensures { result ≡ length (condition_at (hulls (T.Source.means under.now)) k).windows }
-{
-    if under.windows(k) == 0 { 0 } else { 1 }
-}
-
-// The low end of the first window.
-pub(crate) fn hull_low<T: Source>(under: &T, k: usize, w: usize) -> Option<T::Span>
-    ensures { result ≡ (window_of (condition_at (hulls (T.Source.means under.now)) k) w).low }
-{
-    if w == 0 { under.low(k, 0) } else { None }
-}
-
-// The high end of the last window.
-pub(crate) fn hull_high<T: Source>(under: &T, k: usize, w: usize) -> Option<T::Span>
-    ensures { result ≡ (window_of (condition_at (hulls (T.Source.means under.now)) k) w).high }
-{
-    let n = under.windows(k);
-    if w == 0 && n > 0 {
-        under.high(k, n - 1)
-    } else {
-        None
-    }
-}
-
-impl<T: Source> Hull<T> {
-    // The source below, whose condition k has the points of the layer's.
-    fn below(&self, k: usize) -> &T
-        ensures { JoinsAlike (hulls (T.Source.means self.now.under)) (T.Source.means result.now) k }
+impl<T: Source> Layer<T, EachHull> {
+    // A source made of the hulls of another.
+    pub fn over(under: T) -> Hull<T>
+        ensures { ⟦<Hull<T> as Source>⟧.means result ≡ hulls (T.Source.means under) }
     {
-        &self.under
+        Layer {
+            under,
+            rule: EachHull,
+        }
     }
 }
 
-impl<T: Source> Source for Hull<T> {
-    type Span = T::Span;
+impl<T: Source> Rule<T> for EachHull {
+    ghost made = { λ r N. hulls N };
 
-    ghost means = { λ s. hulls (T.Source.means s.under) };
+    ghost same_points = { λ r N. refl };
 
-    fn points(&self) -> usize {
-        self.under.points()
+    ghost same_count = { λ r N. (hull_points N 0).same_count };
+
+    ghost same_from = { λ r N k. (hull_points N k).same_from };
+
+    ghost same_to = { λ r N k. (hull_points N k).same_to };
+
+    // None without windows, else one.
+    fn windows(&self, under: &T, k: usize) -> usize {
+        under.windows(k).min(1)
     }
 
-    fn conditions(&self) -> usize {
-        self.below(0).conditions()
+    // The low end of the first window.
+    fn low(&self, under: &T, k: usize, w: usize) -> Option<T::Span> {
+        if w == 0 { under.low(k, 0) } else { None }
     }
 
-    fn from(&self, k: usize) -> usize {
-        self.below(k).from(k)
-    }
-
-    fn to(&self, k: usize) -> usize {
-        self.below(k).to(k)
-    }
-
-    fn windows(&self, k: usize) -> usize {
-        hull_windows(&self.under, k)
-    }
-
-    fn low(&self, k: usize, w: usize) -> Option<T::Span> {
-        hull_low(&self.under, k, w)
-    }
-
-    fn high(&self, k: usize, w: usize) -> Option<T::Span> {
-        hull_high(&self.under, k, w)
+    // The high end of the last window.
+    fn high(&self, under: &T, k: usize, w: usize) -> Option<T::Span> {
+        if w > 0 {
+            return None;
+        }
+        under.high(k, under.windows(k).checked_sub(1)?)
     }
 }

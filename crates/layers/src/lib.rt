@@ -3,8 +3,9 @@
 
 mod chosen;
 mod hull;
+mod layer;
 mod selected;
 
-pub use chosen::{Chosen, ChosenOver};
-pub use hull::{Hull, HullOver};
-pub use selected::{Selected, SelectedOver};
+pub use chosen::Chosen;
+pub use hull::Hull;
+pub use selected::Selected;

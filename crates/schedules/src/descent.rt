@@ -8,7 +8,7 @@ ghost use Rattle.distances.specs.Matrix.{Rest};
 ghost use Rattle.schedules.specs.Choosing.{Places, Turns, ChosenUpto, RuledOut, GoesOn};
 
 use distances::inner::close;
-use layers::{Chosen, ChosenOver};
+use layers::Chosen;
 use networks::Source;
 use spans::Span;
 

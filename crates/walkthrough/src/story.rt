@@ -6,7 +6,7 @@ ghost use Rattle.networks.specs.Hull.{hulls};
 use crate::job::{BRAKE_CHANGE, POINTS, minutes, point_name};
 use crate::words::{Shown, fault_words};
 use checks::check;
-use layers::{Hull, HullOver, Selected, SelectedOver};
+use layers::{Hull, Selected};
 use list_text::{FromText, ListText};
 use networks::{Fault, FromRows, Lent, Row, Rows, Source, Window};
 use spans::Minutes;

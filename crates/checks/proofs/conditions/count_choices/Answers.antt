@@ -1,27 +1,14 @@
-use Rattle.std.proofs.Common.{ℕ, length, arith}
-use Rattle.std.proofs.lemmas.Bool.{cond-true, cond-false, lt-ltb, le-ltb}
+use Rattle.std.proofs.Common.{rules, tests, arith, ℕ, refl, length, ltb}
+use Rattle.std.proofs.lemmas.Iterator.{YieldsList-from_range}
+use Rattle.std.proofs.lemmas.Iterator.Consumers.{YieldsList-from_filter, count_from_yields_List}
 use Rattle.networks.specs.Network.{condition_at}
-use Rattle.checks.proofs.Walks.{choices_more, choices_all}
+use Rattle.checks.proofs.Walks.{choices_counted}
 use Rattle.checks.proofs.conditions.count_choices.Goals as goal
-use Rattle.checks.proofs.conditions.count_choices.Goals.{then-windows-gt1, else-windows-gt1}
-
-pub loop-k-preserved : goal.loop-k-preserved
-loop-k-preserved g c =
-    let n = g.T.Source.means c.args.source.now in
-    let m = length (condition_at n c.loop-k.k).windows in
-    let more = choices_more n.conditions c.loop-k.k (omega (arith, c.conditions-k-end.ensures)) in
-    let inv = c.loop-k.invariant in
-    elim c.if-windows-gt1.branch [
-      | then-windows-gt1 w ↦
-          let one = cond-true {A = ℕ} _ 1 0 (lt-ltb 1 m (omega (arith, c.windows.ensures, w.if-windows-gt1.true))) in
-          (omega (arith, w.count-is), omega (arith, w.count-is, one, more))
-      | else-windows-gt1 w ↦
-          let none = cond-false {A = ℕ} _ 1 0 (le-ltb 1 m (omega (arith, c.windows.ensures, w.if-windows-gt1.false))) in
-          (omega (arith, w.count-is), omega (arith, w.count-is, none, more))
-    ]
 
 pub returns : goal.returns
 returns g c =
-    let n = g.T.Source.means c.args.source.now in
-    let all = choices_all n.conditions c.loop-k.k (omega (arith, c.conditions-k-end.ensures)) in
-    omega (arith, all)
+    let N = g.T.Source.means c.args.source.now in
+    let test = λ (k : ℕ). ltb 1 (length (condition_at N k).windows) in
+    let n = c.conditions.result in
+    let by_number = count_from_yields_List c.filter.result _ c.count.ensures.ran (YieldsList-from_filter _ test (YieldsList-from_range 0 n n c.filter.ensures.source (omega arith)) c.filter.ensures.closure (λ k b q t. search (rules, tests))) in
+    choices_counted test N.conditions n c.count.result by_number c.conditions.ensures (λ i h. refl)

@@ -1,26 +1,16 @@
-use Rattle.std.proofs.Common.{sym, refl, arith}
-use Rattle.networks.specs.Network.{condition_at, open_window}
+use Rattle.std.proofs.Common.{rules, tests, arith, ℕ, refl, drop, ◌+◌}
+use Rattle.std.proofs.lemmas.Iterator.{YieldsList-from_range}
+use Rattle.std.proofs.lemmas.Iterator.Search.{all_from_yields_List}
+use Rattle.networks.specs.Network.{condition_at, window_of, open_window}
 use Rattle.networks.specs.Refusal.{rises}
-use Rattle.checks.proofs.Walks.{passed, failed, all_passed, rises_here}
+use Rattle.checks.proofs.Walks.{all_tested, rises_here}
 use Rattle.checks.proofs.windows.windows_rise.Goals as goal
-
-pub returns-then-not-window_rises : goal.returns-then-not-window_rises
-returns-then-not-window_rises g c =
-    let K = g.T.Span.Span.kind in
-    let ws = (condition_at (g.T.Source.means c.args.source.now) c.args.k).windows in
-    failed (rises K) (rises_here K) refl (λ _ _. refl) ws c.loop-w.w open_window c.loop-w.invariant
-    (omega (arith, c.windows-count.ensures)) (sym c.if-not-window_rises.ensures)
-
-pub loop-w-preserved : goal.loop-w-preserved
-loop-w-preserved g c =
-    let K = g.T.Span.Span.kind in
-    let ws = (condition_at (g.T.Source.means c.args.source.now) c.args.k).windows in
-    passed (rises K) (rises_here K) refl (λ _ _. refl) ws c.loop-w.w open_window c.loop-w.invariant
-    (omega (arith, c.windows-count.ensures)) (sym c.if-not-window_rises.ensures)
 
 pub returns : goal.returns
 returns g c =
     let K = g.T.Span.Span.kind in
-    let ws = (condition_at (g.T.Source.means c.args.source.now) c.args.k).windows in
-    all_passed (rises K) (rises_here K) refl (λ _ _. refl) ws c.loop-w.w open_window c.loop-w.invariant
-    (omega (arith, c.windows-count.ensures))
+    let x = condition_at (g.T.Source.means c.args.source.now) c.args.k in
+    let test = λ (w : ℕ). rises_here K (window_of x w) (drop (w + 1) x.windows) in
+    let n = c.windows-count.result in
+    let by_number = all_from_yields_List test _ _ c.all.result c.all.ensures.ran (YieldsList-from_range 0 n n refl (omega arith)) (λ w b q k. search (rules, tests)) in
+    all_tested (rises K) (rises_here K) refl (λ _ _. refl) open_window test x.windows n c.all.result by_number c.windows-count.ensures (λ i h. refl)

@@ -1,26 +1,16 @@
-use Rattle.std.proofs.Common.{sym, refl, arith}
-use Rattle.networks.specs.Network.{condition_at, open_window}
-use Rattle.networks.specs.Refusal.{all_small}
-use Rattle.checks.proofs.Walks.{passed, failed, all_passed, both_small}
+use Rattle.std.proofs.Common.{rules, tests, arith, ℕ, refl, ◌&&◌}
+use Rattle.std.proofs.lemmas.Iterator.{YieldsList-from_range}
+use Rattle.std.proofs.lemmas.Iterator.Search.{all_from_yields_List}
+use Rattle.networks.specs.Network.{condition_at, window_of, open_window}
+use Rattle.networks.specs.Refusal.{small, all_small}
+use Rattle.checks.proofs.Walks.{all_tested, both_small}
 use Rattle.checks.proofs.windows.windows_small.Goals as goal
-
-pub returns-then-not-window_small : goal.returns-then-not-window_small
-returns-then-not-window_small g c =
-    let K = g.T.Span.Span.kind in
-    let ws = (condition_at (g.T.Source.means c.args.source.now) c.args.k).windows in
-    failed (all_small K) (both_small K) refl (λ _ _. refl) ws c.loop-w.w open_window c.loop-w.invariant
-    (omega (arith, c.windows-w-end.ensures)) (sym c.if-not-window_small.ensures)
-
-pub loop-w-preserved : goal.loop-w-preserved
-loop-w-preserved g c =
-    let K = g.T.Span.Span.kind in
-    let ws = (condition_at (g.T.Source.means c.args.source.now) c.args.k).windows in
-    passed (all_small K) (both_small K) refl (λ _ _. refl) ws c.loop-w.w open_window c.loop-w.invariant
-    (omega (arith, c.windows-w-end.ensures)) (sym c.if-not-window_small.ensures)
 
 pub returns : goal.returns
 returns g c =
     let K = g.T.Span.Span.kind in
-    let ws = (condition_at (g.T.Source.means c.args.source.now) c.args.k).windows in
-    all_passed (all_small K) (both_small K) refl (λ _ _. refl) ws c.loop-w.w open_window c.loop-w.invariant
-    (omega (arith, c.windows-w-end.ensures))
+    let x = condition_at (g.T.Source.means c.args.source.now) c.args.k in
+    let test = λ (w : ℕ). small K (window_of x w).low && small K (window_of x w).high in
+    let n = c.windows.result in
+    let by_number = all_from_yields_List test _ _ c.all.result c.all.ensures.ran (YieldsList-from_range 0 n n refl (omega arith)) (λ w b q k. search (rules, tests)) in
+    all_tested (all_small K) (both_small K) refl (λ _ _. refl) open_window test x.windows n c.all.result by_number c.windows.ensures (λ i h. refl)
