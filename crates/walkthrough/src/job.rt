@@ -1,7 +1,4 @@
 // The brake change: its points, and its conditions as list text.
-use networks::Window;
-use spans::Minutes;
-
 pub const POINTS: usize = 7;
 
 // The brake change as a terminal writes it. The berth's gaps come first, then the steps of the work, the whole change, and
@@ -17,24 +14,17 @@ pub const BRAKE_CHANGE: &str = "[(7,7,[]);
  (0,6,[(Inf,E(1080))])]
 ";
 
-// The numbers of the points, in the order in which they should come.
-pub fn point_name(p: usize) -> &'static str {
-    match p {
-        0 => "first vessel sails",
-        1 => "crane stopped",
-        2 => "crew at the crane",
-        3 => "brake out",
-        4 => "brake in",
-        5 => "test run done",
-        6 => "crane handed back",
-        _ => "a point that is not there",
-    }
-}
+// The points by number, in the order in which they should come.
+const NAMES: [&str; POINTS] = [
+    "first vessel sails",
+    "crane stopped",
+    "crew at the crane",
+    "brake out",
+    "brake in",
+    "test run done",
+    "crane handed back",
+];
 
-// From `low` to `high` minutes.
-pub fn minutes(low: i64, high: i64) -> Window<Minutes> {
-    Window {
-        low: Some(Minutes { count: low }),
-        high: Some(Minutes { count: high }),
-    }
+pub fn point_name(p: usize) -> &'static str {
+    NAMES.get(p).copied().unwrap_or("a point that is not there")
 }

@@ -3,12 +3,12 @@ ghost use Rattle.std.specs.Prelude.{◌≡◌};
 ghost use Rattle.networks.specs.Network.{condition_at, window_of};
 ghost use Rattle.networks.specs.Hull.{hulls};
 
-use crate::job::{BRAKE_CHANGE, POINTS, minutes, point_name};
-use crate::words::{Shown, fault_words};
+use crate::job::{BRAKE_CHANGE, POINTS, point_name};
+use crate::words::{Refused, in_minutes};
 use checks::check;
 use layers::{Hull, Selected};
 use list_text::{FromText, ListText};
-use networks::{Fault, FromRows, Lent, Row, Rows, Source, Window};
+use networks::{Fault, Lent, Row, Rows, Source, Window};
 use spans::Minutes;
 use std::io;
 
@@ -39,7 +39,7 @@ pub(crate) fn tell_condition<T: Source<Span = Minutes>>(
     let to = point_name(source.to(k));
     println!(rt; "  {k}: from '{from}' to '{to}'")?;
     for w in 0..source.windows(k) {
-        let window = Shown(Window {
+        let window = in_minutes(Window {
             low: source.low(k, w),
             high: source.high(k, w),
         });
@@ -52,21 +52,17 @@ fn tell_hull<T: Source<Span = Minutes>>(rt: &HostRuntime, source: &T, k: usize) 
     if source.windows(k) == 0 {
         return println!(rt; "       no window, so no hull");
     }
-    let hull = Shown(hull_of(source, k));
+    let hull = in_minutes(hull_of(source, k));
     println!(rt; "       hull: {hull}")
 }
 
 // A text with a caret under the place of its fault.
 pub(crate) fn tell_fault(rt: &HostRuntime, text: &str, fault: Fault) -> io::Result<()> {
-    let number = fault.number();
+    let before = "";
     let place = fault.detail();
-    let words = fault_words(fault);
+    let refused = Refused(fault);
     println!(rt; "  {text}")?;
-    print!(rt; "  ")?;
-    for _ in 0..place {
-        print!(rt; " ")?;
-    }
-    println!(rt; "^ refused {number} {place} ({words})")
+    println!(rt; "  {before:>place$}^ {refused}")
 }
 
 fn tell_text(rt: &HostRuntime, text: &str) -> io::Result<()> {
@@ -150,10 +146,8 @@ fn tell_source<T: Source<Span = Minutes>>(
     match check(source, lent) {
         Ok(()) => println!(rt; "  {what}: passes"),
         Err(fault) => {
-            let number = fault.number();
-            let detail = fault.detail();
-            let words = fault_words(fault);
-            println!(rt; "  {what}: refused {number} {detail} ({words})")
+            let refused = Refused(fault);
+            println!(rt; "  {what}: {refused}")
         }
     }
 }
@@ -211,10 +205,10 @@ fn tell_check(rt: &HostRuntime, what: &str, rows: &[Row<Minutes>], lent: Lent) -
 }
 
 fn tell_many(rt: &HostRuntime) -> io::Result<()> {
-    let one = Row::new(1, 2, &[minutes(0, 45)]);
+    let one = Row::new(1, 2, &[Window::minutes(0, 45)]);
     tell_check(rt, "64 conditions", &[one; 64], AMPLE)?;
     tell_check(rt, "65 conditions", &[one; 65], AMPLE)?;
-    let choice = Row::new(0, 1, &[minutes(30, 90), minutes(600, 660)]);
+    let choice = Row::new(0, 1, &[Window::minutes(30, 90), Window::minutes(600, 660)]);
     tell_check(rt, "6 choice conditions", &[choice; 6], AMPLE)?;
     tell_check(rt, "7 choice conditions", &[choice; 7], AMPLE)
 }
@@ -226,7 +220,7 @@ fn tell_memory(
     cycle: usize,
     dates: usize,
 ) -> io::Result<()> {
-    let row = Row::new(1, 2, &[minutes(0, 45)]);
+    let row = Row::new(1, 2, &[Window::minutes(0, 45)]);
     tell_check(
         rt,
         what,

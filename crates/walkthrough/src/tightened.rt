@@ -1,10 +1,10 @@
 // What the walkthrough tells of the job's hulls taken together: how far apart any two points may lie, or why no plan meets them.
 use crate::job::{BRAKE_CHANGE, POINTS, point_name};
 use crate::story::{hull_of, tell_condition, tell_fault};
-use crate::words::{Times, fault_words};
+use crate::words::{Refused, in_hours};
 use distances::tighten;
 use list_text::{FromText, ListText};
-use networks::{Fault, FromRows, Row, Rows, Source, Window};
+use networks::{Fault, Row, Rows, Source, Window};
 use spans::{Minutes, Span};
 use std::io;
 
@@ -44,12 +44,8 @@ fn tell_table(rt: &HostRuntime, matrix: &[Option<Minutes>]) -> io::Result<()> {
 
 // From point i to point j: at least the opposite of what point i comes after point j at most.
 fn tight_window(matrix: &[Option<Minutes>], i: usize, j: usize) -> Window<Minutes> {
-    let low = match at_most_after(matrix, j, i) {
-        Some(most) => most.opposite(),
-        None => None,
-    };
     Window {
-        low,
+        low: at_most_after(matrix, j, i).and_then(Minutes::opposite),
         high: at_most_after(matrix, i, j),
     }
 }
@@ -59,18 +55,10 @@ fn tell_times(rt: &HostRuntime, matrix: &[Option<Minutes>]) -> io::Result<()> {
     println!(rt; "So each point comes, in hours and minutes after '{first}':")?;
     for p in 1..POINTS {
         let name = point_name(p);
-        let times = Times(tight_window(matrix, 0, p));
+        let times = in_hours(tight_window(matrix, 0, p));
         println!(rt; "  {p}: {name}: {times}")?;
     }
     Ok(())
-}
-
-fn same_end(a: Option<Minutes>, b: Option<Minutes>) -> bool {
-    match (a, b) {
-        (Some(a), Some(b)) => a.count == b.count,
-        (None, None) => true,
-        _ => false,
-    }
 }
 
 fn tell_narrowed<T: Source<Span = Minutes>>(
@@ -82,11 +70,11 @@ fn tell_narrowed<T: Source<Span = Minutes>>(
     for k in 0..job.conditions() {
         let hull = hull_of(job, k);
         let tight = tight_window(matrix, job.from(k), job.to(k));
-        if !same_end(hull.low, tight.low) || !same_end(hull.high, tight.high) {
+        if hull != tight {
             let from = point_name(job.from(k));
             let to = point_name(job.to(k));
-            let told = Times(hull);
-            let left = Times(tight);
+            let told = in_hours(hull);
+            let left = in_hours(tight);
             println!(rt; "  {k}: from '{from}' to '{to}': {told}, narrowed to {left}")?;
         }
     }
@@ -120,7 +108,7 @@ fn tell_cycle<T: Source<Span = Minutes>>(
     job: &T,
     codes: &[u16],
 ) -> io::Result<()> {
-    let mut total = Minutes { count: 0 };
+    let mut total = Minutes::zero();
     let mut end = "";
     for code in codes {
         if let Some((i, j, weight)) = edge_of(job, *code) {
@@ -146,10 +134,8 @@ fn tell_refused<T: Source<Span = Minutes>>(
     fault: Fault,
     cycle: &[u16],
 ) -> io::Result<()> {
-    let number = fault.number();
-    let detail = fault.detail();
-    let words = fault_words(fault);
-    println!(rt; "  tightened: refused {number} {detail} ({words})")?;
+    let refused = Refused(fault);
+    println!(rt; "  tightened: {refused}")?;
     let Fault::Cycle(edges) = fault else {
         return Ok(());
     };
@@ -178,10 +164,7 @@ fn tell_tightened<T: Source<Span = Minutes>>(rt: &HostRuntime, job: &T) -> io::R
 
 // The job's 8 conditions and one more, the last: the second vessel berths 450 minutes after the first one sails.
 fn with_early_vessel(job: &ListText) -> [Row<Minutes>; 9] {
-    let berths = Window {
-        low: None,
-        high: Some(Minutes { count: 450 }),
-    };
+    let berths = Window::at_most(Minutes::from(450));
     let mut rows = [Row::new(0, 6, &[berths]); 9];
     let _ = job.fill(0, &mut rows[0..8]);
     rows
