@@ -29,6 +29,7 @@ impl<T: Source> Layer<T, PartSelection> {
     }
 }
 
+#[tactic(auto, using(crate::specs::Alike::chosen_below, crate::specs::Alike::chosen_above))]
 impl<T: Source> Rule<T> for PartSelection {
     ghost made = { λ r N. chosen N r.selection.windows r.place };
 

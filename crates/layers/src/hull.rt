@@ -23,6 +23,7 @@ impl<T: Source> Layer<T, EachHull> {
     }
 }
 
+#[tactic(auto, using(crate::proofs::Hulls::hull_second, crate::proofs::Hulls::hull_high_lem))]
 impl<T: Source> Rule<T> for EachHull {
     ghost made = { λ r N. hulls N };
 

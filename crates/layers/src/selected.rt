@@ -45,6 +45,7 @@ impl Selection {
     }
 }
 
+#[tactic(auto, using(crate::proofs::Selections::kept_none, crate::proofs::Selections::kept_some))]
 impl<T: Source> Rule<T> for Selection {
     ghost made = { λ r N. selected N r.windows };
 
