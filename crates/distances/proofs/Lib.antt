@@ -1,3 +1,4 @@
+pub mod Links
 pub mod Tables
 pub mod Distincts
 pub mod Pieces

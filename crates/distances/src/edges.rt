@@ -1,12 +1,14 @@
-// The edges of a source's hulls in a matrix, with their codes. Assumes that the source's network is legal and that the memory has room, as each requires.
-ghost use Rattle.std.specs.Prelude.{◌≡◌, ℕ, suc, ◌+◌, ◌*◌, ◌<◌, ◌≤◌, length, if◌then◌else◌, Some, None, nat_eq, nat_lt};
+// The edges of a source's hulls in a matrix, with their links. Assumes that the source's network is legal and that the memory has room, as each requires.
+ghost use Rattle.std.specs.Prelude.{◌≡◌, ℕ, suc, ◌+◌, ◌*◌, ◌<◌, ◌≤◌, length, if◌then◌else◌, Some, None, nat_eq, nat_lt, true};
 ghost use Rattle.networks.specs.Legal.{Legal};
 ghost use Rattle.networks.specs.Limits.{most_points, most_conditions};
 ghost use Rattle.distances.specs.Begun.{begun, Filled};
 ghost use Rattle.distances.specs.Edges.{Coded, coded, only_at, lesser, opposite_end, least_edge};
 ghost use Rattle.distances.specs.Graph.{hull_of};
-ghost use Rattle.distances.specs.Matrix.{table, numbers, Rest};
+ghost use Rattle.distances.specs.Table.{is_direct};
+ghost use Rattle.distances.specs.Matrix.{table, linked, Rest};
 
+use crate::link::Link;
 use crate::matrix::{blank, improve, place};
 use layers::{Hull, HullOver};
 use networks::Source;
@@ -34,7 +36,7 @@ fn backward_weight<T: Source>(source: &T, k: usize) -> Option<T::Span>
 // The edge from one point to another, where it is the least so far.
 fn put_edge<S: Span>(
     matrix: &mut [Option<S>],
-    codes: &mut [u16],
+    links: &mut [Link],
     n: usize,
     from: usize,
     to: usize,
@@ -42,13 +44,13 @@ fn put_edge<S: Span>(
     code: u16,
 )
     requires points { (n ≤ most_points) × ((from < n) × (to < n)) }
-    requires room { (n * n ≤ length matrix.old) × (n * n ≤ length codes.old) }
-    ensures filled { (edges : ℕ → ℕ → Coded S) → Filled n edges matrix.old codes.old
-        → Filled n (λ i j. lesser S.Span.kind (edges i j) (only_at from to i j (coded code weight))) matrix.new codes.new }
+    requires room { (n * n ≤ length matrix.old) × (n * n ≤ length links.old) }
+    ensures filled { (edges : ℕ → ℕ → Coded S) → Filled n edges matrix.old links.old
+        → Filled n (λ i j. lesser S.Span.kind (edges i j) (only_at from to i j (coded code weight))) matrix.new links.new }
     ensures rest { Rest n matrix.old matrix.new }
 {
     let at = place(n, from, to);
-    improve(matrix, codes, at, weight, code);
+    improve(matrix, links, at, weight, Link::Direct(code));
 }
 
 // The code of condition k's edge forward.
@@ -73,20 +75,20 @@ fn put_condition<T: Source>(
     n: usize,
     k: usize,
     matrix: &mut [Option<T::Span>],
-    codes: &mut [u16],
+    links: &mut [Link],
 )
     requires points { (n ≡ (T.Source.means source.now).points) × ((n ≤ most_points) × (k < length (T.Source.means source.now).conditions)) }
-    requires room { (n * n ≤ length matrix.old) × (n * n ≤ length codes.old) }
+    requires room { (n * n ≤ length matrix.old) × (n * n ≤ length links.old) }
     requires legal { Legal T.Span.Span.kind (T.Source.means source.now) }
-    requires filled { Filled n (least_edge T.Span.Span.kind (T.Source.means source.now) k) matrix.old codes.old }
-    ensures filled { Filled n (least_edge T.Span.Span.kind (T.Source.means source.now) (suc k)) matrix.new codes.new }
+    requires filled { Filled n (least_edge T.Span.Span.kind (T.Source.means source.now) k) matrix.old links.old }
+    ensures filled { Filled n (least_edge T.Span.Span.kind (T.Source.means source.now) (suc k)) matrix.new links.new }
     ensures rest { Rest n matrix.old matrix.new }
 {
     let from = source.from(k);
     let to = source.to(k);
     put_edge(
         matrix,
-        codes,
+        links,
         n,
         from,
         to,
@@ -95,7 +97,7 @@ fn put_condition<T: Source>(
     );
     put_edge(
         matrix,
-        codes,
+        links,
         n,
         to,
         from,
@@ -121,22 +123,21 @@ pub(crate) fn fill_edges<T: Source>(
     source: &T,
     n: usize,
     matrix: &mut [Option<T::Span>],
-    codes: &mut [u16],
-    middles: &mut [u8],
+    links: &mut [Link],
 )
     requires points { (n ≡ (T.Source.means source.now).points) × (n ≤ most_points) }
-    requires room { (n * n ≤ length matrix.old) × ((n * n ≤ length codes.old) × (n * n ≤ length middles.old)) }
+    requires room { (n * n ≤ length matrix.old) × (n * n ≤ length links.old) }
     requires legal { Legal T.Span.Span.kind (T.Source.means source.now) }
     ensures matrix { (i j : ℕ) → table n matrix.new i j ≡ begun T.Span.Span.kind (T.Source.means source.now) i j }
-    ensures codes { (i j c : ℕ) (a : T.Span) → least_edge T.Span.Span.kind (T.Source.means source.now) (length (T.Source.means source.now).conditions) i j ≡ Some (a, c)
-        → numbers n codes.new i j ≡ c }
-    ensures middles { (i j : ℕ) → numbers n middles.new i j ≡ 0 }
+    ensures links { (i j c : ℕ) (a : T.Span) → least_edge T.Span.Span.kind (T.Source.means source.now) (length (T.Source.means source.now).conditions) i j ≡ Some (a, c)
+        → linked n links.new i j ≡ Link.Direct c }
+    ensures straight { (i j : ℕ) → is_direct (linked n links.new i j) ≡ true }
     ensures rest { Rest n matrix.old matrix.new }
 {
     blank(matrix, n, None);
-    blank(middles, n, 0);
+    blank(links, n, Link::Direct(0));
     for k in 0..source.conditions() {
-        put_condition(source, n, k, matrix, codes);
+        put_condition(source, n, k, matrix, links);
     }
     put_zeros(matrix, n);
 }

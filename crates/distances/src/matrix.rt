@@ -1,10 +1,11 @@
 // Reading and blanking a matrix of n rows in lent memory: the entry of (i, j) stands at place i×n + j. Assumes that the memory has room, as each requires.
 ghost use Rattle.std.specs.Prelude.{◌≡◌, ◌+◌, ◌*◌, ◌<◌, ◌≤◌, length, replicate, if◌then◌else◌, None, slice_index_or, slice_set};
 ghost use Rattle.networks.specs.Limits.{most_points};
-ghost use Rattle.distances.specs.Matrix.{table, numbers};
+ghost use Rattle.distances.specs.Matrix.{square};
 ghost use Rattle.distances.specs.Memory.{put_first};
 ghost use Rattle.distances.specs.Table.{beats};
 
+use crate::link::Link;
 use spans::Span;
 
 // The place of (i, j).
@@ -16,31 +17,12 @@ pub(crate) fn place(n: usize, i: usize, j: usize) -> usize
     i * n + j
 }
 
-// The entry of (i, j).
-pub(crate) fn entry<S: Span>(matrix: &[Option<S>], n: usize, i: usize, j: usize) -> Option<S>
-    requires { (n ≤ most_points) × ((i < n) × ((j < n) × (n * n ≤ length matrix.now))) }
-    ensures { result ≡ table n matrix.now i j }
+// What stands at (i, j).
+pub(crate) fn entry<A: Copy>(cells: &[A], n: usize, i: usize, j: usize) -> A
+    requires { (n ≤ most_points) × ((i < n) × ((j < n) × (n * n ≤ length cells.now))) }
+    ensures { (z : A) → result ≡ square z n cells.now i j }
 {
-    let at = place(n, i, j);
-    matrix[at]
-}
-
-// The middle point of (i, j) plus one, or 0 for an edge.
-pub(crate) fn middle(middles: &[u8], n: usize, i: usize, j: usize) -> u8
-    requires { (n ≤ most_points) × ((i < n) × ((j < n) × (n * n ≤ length middles.now))) }
-    ensures { result ≡ numbers n middles.now i j }
-{
-    let at = place(n, i, j);
-    middles[at]
-}
-
-// The code of the edge from i to j.
-pub(crate) fn code(codes: &[u16], n: usize, i: usize, j: usize) -> u16
-    requires { (n ≤ most_points) × ((i < n) × ((j < n) × (n * n ≤ length codes.now))) }
-    ensures { result ≡ numbers n codes.now i j }
-{
-    let at = place(n, i, j);
-    codes[at]
+    cells[place(n, i, j)]
 }
 
 // Writes `value` into the first n×n cells.
@@ -64,20 +46,20 @@ fn is_better<S: Span>(y: Option<S>, x: Option<S>) -> bool
     }
 }
 
-// Writes `way` with its mark where the entry is missing or greater.
-pub(crate) fn improve<S: Span, M: Copy>(
+// Writes `way` with its link where the entry is missing or greater.
+pub(crate) fn improve<S: Span>(
     matrix: &mut [Option<S>],
-    marks: &mut [M],
+    links: &mut [Link],
     at: usize,
     way: Option<S>,
-    mark: M,
+    link: Link,
 )
-    requires { (at < length matrix.old) × (at < length marks.old) }
+    requires { (at < length matrix.old) × (at < length links.old) }
     ensures matrix { matrix.new ≡ (if beats S.Span.kind way (slice_index_or matrix.old at None) then slice_set matrix.old at way else matrix.old) }
-    ensures marks { marks.new ≡ (if beats S.Span.kind way (slice_index_or matrix.old at None) then slice_set marks.old at mark else marks.old) }
+    ensures links { links.new ≡ (if beats S.Span.kind way (slice_index_or matrix.old at None) then slice_set links.old at link else links.old) }
 {
     if is_better(way, matrix[at]) {
         matrix[at] = way;
-        marks[at] = mark;
+        links[at] = link;
     }
 }

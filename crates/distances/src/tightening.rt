@@ -4,8 +4,9 @@ ghost use Rattle.networks.specs.Legal.{Legal};
 ghost use Rattle.distances.specs.Tightening.{Ends, Tightens};
 ghost use Rattle.distances.specs.Decided.{NetworksDecided};
 
-use crate::closing::{ClosingEdge, close};
+use crate::closing::close;
 use crate::cycle::give_up;
+use crate::link::Link;
 use checks::check;
 use networks::{Fault, Lent, Source};
 use spans::Span;
@@ -23,13 +24,11 @@ fn tighten_checked<T: Source>(
     requires room { ((T.Source.means source.now).points * (T.Source.means source.now).points ≤ length matrix.old) × ((T.Source.means source.now).points ≤ length cycle.old) }
     ensures { Ends T.Span.Span.kind (T.Source.means source.now) matrix.old cycle.old result matrix.new cycle.new }
 {
-    let mut middles = [0u8; MOST_ENTRIES];
-    let mut codes = [0u16; MOST_ENTRIES];
-    match close(source, matrix, &mut middles, &mut codes) {
+    let mut links = [Link::Direct(0); MOST_ENTRIES];
+    match close(source, matrix, &mut links) {
         None => Ok(()),
         Some(edge) => {
-            let n = source.points();
-            let edges = give_up(&middles, &codes, n, edge.first, edge.last, matrix, cycle);
+            let edges = give_up(&links, source.points(), edge, matrix, cycle);
             Err(Fault::Cycle(edges))
         }
     }

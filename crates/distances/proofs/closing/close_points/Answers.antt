@@ -1,6 +1,7 @@
 -- What stands begins, steps and ends; or an edge closes a way below zero. Assumes nothing.
-use Rattle.std.proofs.Common.{◌≡◌, ℕ, ◌*◌, ◌<◌, refl, ap, ◌∙◌, arith}
-use Rattle.distances.specs.Matrix.{table, numbers}
+use Rattle.std.proofs.Common.{◌≡◌, ℕ, ◌*◌, ◌<◌, refl, sym, ap, subst, ◌∙◌, arith}
+use Rattle.distances.specs.Closing.{CannotClose}
+use Rattle.distances.specs.Matrix.{table, linked}
 use Rattle.distances.proofs.Endings.{standing_begins, standing_steps, standing_refuses, standing_ends}
 use Rattle.distances.proofs.closing.close_points.Goals as goal
 
@@ -9,8 +10,8 @@ loop-k-init g c =
     let N = g.T.Source.means c.args.source.now in
     let n = c.args.n in
     let filled = c.fill_edges.ensures in (
-      standing_begins g.met.T.Span.Span.lawful N c.requires.legal (numbers n c.fill_edges.new.codes) (table n c.fill_edges.new.matrix) (numbers n c.fill_edges.new.middles)
-          filled.matrix filled.codes filled.middles,
+      standing_begins g.met.T.Span.Span.lawful N c.requires.legal (table n c.fill_edges.new.matrix) (linked n c.fill_edges.new.links)
+          filled.matrix filled.links filled.straight,
       refl,
     )
 
@@ -22,8 +23,9 @@ returns-in-Some g c =
     let found = c.in-Some.ensures in
     let below : c.loop-k.k < N.points = omega arith in
     record {
-      ends = (standing_refuses g.met.T.Span.Span.lawful N c.requires.legal (numbers n c.fill_edges.new.codes) (table n c.loop-k.matrix) (numbers n c.loop-k.middles)
-          c.loop-k.k c.loop-k.invariant.0 below c.in-Some.i found.0 found.1);
+      ends = subst (λ (m : ℕ). CannotClose g.T.Span.Span.kind N (linked n c.loop-k.links) m c.in-Some.edge.last c.in-Some.edge.code) (sym found.first_is)
+          (standing_refuses g.met.T.Span.Span.lawful N c.requires.legal (table n c.loop-k.matrix) (linked n c.loop-k.links)
+          c.loop-k.k c.loop-k.invariant.0 below c.in-Some.edge.last found.last_below found.below_zero c.in-Some.edge.code found.back);
       rest = (c.loop-k.invariant.1 ∙ c.fill_edges.ensures.rest);
     }
 
@@ -43,8 +45,8 @@ loop-k-preserved g c =
     let n = c.args.n in
     let relaxed = c.relax_stage.ensures in
     let below : c.loop-k.k < N.points = omega arith in (
-      standing_steps g.met.T.Span.Span.lawful N c.requires.legal (numbers n c.fill_edges.new.codes) (table n c.loop-k.matrix) (numbers n c.loop-k.middles)
-          c.loop-k.k c.loop-k.invariant.0 below _ _ c.in_default.ensures relaxed.matrix relaxed.middles,
+      standing_steps g.met.T.Span.Span.lawful N c.requires.legal (table n c.loop-k.matrix) (linked n c.loop-k.links)
+          c.loop-k.k c.loop-k.invariant.0 below _ _ c.in_default.ensures relaxed.matrix relaxed.links,
       relaxed.rest ∙ c.loop-k.invariant.1,
     )
 
@@ -55,7 +57,7 @@ returns g c =
     let is : n ≡ N.points = c.requires.points in
     let all : c.loop-k.k ≡ N.points = omega arith in
     record {
-      ends = standing_ends g.met.T.Span.Span.lawful N c.requires.legal (numbers n c.fill_edges.new.codes) n c.loop-k.k c.loop-k.matrix (numbers n c.loop-k.middles)
+      ends = standing_ends g.met.T.Span.Span.lawful N c.requires.legal n c.loop-k.k c.loop-k.matrix (linked n c.loop-k.links)
           is all c.loop-k.invariant.0;
       rest = (c.loop-k.invariant.1 ∙ c.fill_edges.ensures.rest);
     }

@@ -1,15 +1,15 @@
 use Rattle.std.proofs.Common.{◌≡◌, ℕ, ◌*◌, length, drop, None, sym, refl, ap, ◌∙◌, subst, add-one, arith}
 use Rattle.distances.specs.Begun.{Filled}
 use Rattle.distances.specs.Edges.{least_edge}
-use Rattle.distances.specs.Matrix.{numbers}
-use Rattle.distances.proofs.Matrices.{blank_square, blank_rest}
+use Rattle.distances.specs.Matrix.{linked}
+use Rattle.distances.proofs.Matrices.{blank_rest}
 use Rattle.distances.proofs.Filling.{none_filled, begun_is}
 use Rattle.distances.proofs.edges.fill_edges.Goals as goal
 
 pub loop-k-init : goal.loop-k-init
 loop-k-init g c = (
-  simp c.blank.ensures
-      (none_filled g.T.Span.Span.kind (g.T.Source.means c.args.source.now) c.args.n c.args.matrix.now c.args.codes.now),
+  simp (c.blank.ensures, c.blank-2.ensures)
+      (none_filled g.T.Span.Span.kind (g.T.Source.means c.args.source.now) c.args.n c.args.matrix.now c.args.links.now),
   refl,
 )
 
@@ -18,7 +18,7 @@ loop-k-preserved g c =
     let K = g.T.Span.Span.kind in
     let N = g.T.Source.means c.args.source.now in
     let e = c.put_condition.ensures in (
-      subst (λ (k : ℕ). Filled c.args.n (least_edge K N k) c.put_condition.new.matrix c.put_condition.new.codes)
+      subst (λ (k : ℕ). Filled c.args.n (least_edge K N k) c.put_condition.new.matrix c.put_condition.new.links)
           (sym (add-one c.loop-k.k)) e.filled,
       e.rest ∙ c.loop-k.invariant.1,
     )
@@ -29,11 +29,11 @@ returns g c =
     let N = g.T.Source.means c.args.source.now in
     let n = c.args.n in
     let all : c.loop-k.k ≡ length N.conditions = omega arith in
-    let filled : Filled n (least_edge K N (length N.conditions)) c.loop-k.matrix c.loop-k.codes = rw all at c.loop-k.invariant.0 in
+    let filled : Filled n (least_edge K N (length N.conditions)) c.loop-k.matrix c.loop-k.links = rw all at c.loop-k.invariant.0 in
     record {
-      matrix = λ i j. c.put_zeros.ensures.matrix i j ∙ begun_is K N n c.loop-k.matrix c.loop-k.codes (omega arith) filled i j;
-      codes = filled.codes_beside;
-      middles = λ i j. ap (λ l. numbers n l i j) c.blank-2.ensures ∙ blank_square 0 n 0 c.args.middles.now i j;
+      matrix = λ i j. c.put_zeros.ensures.matrix i j ∙ begun_is K N n c.loop-k.matrix c.loop-k.links (omega arith) filled i j;
+      links = filled.codes_beside;
+      straight = filled.straight;
       rest =
           c.put_zeros.ensures.rest ∙ c.loop-k.invariant.1
           ∙ ap (drop (n * n)) c.blank.ensures ∙ blank_rest None n None c.args.matrix.now;

@@ -22,7 +22,7 @@ returns g c =
     let few = c.requires.legal.few_conditions in
     let edges = least_edge K N k in
     let more : ℕ → ℕ → Coded _ = λ i j. lesser K (edges i j) (ahead K N k i j) in
-    let first : Filled c.args.n more c.put_edge.new.matrix c.put_edge.new.codes =
+    let first : Filled c.args.n more c.put_edge.new.matrix c.put_edge.new.links =
     same_edge K c.args.n edges {c' = 2 * k} c.from-from.ensures c.to-to.ensures (omega arith) c.forward_weight.ensures
     (c.put_edge.ensures.filled edges c.requires.filled) in
     record {

@@ -7,7 +7,7 @@ returns g c =
     let K = g.S.Span.kind in
     let n = c.args.n in
     let t : Put K n c.args.from c.args.to c.args.code c.args.weight
-    c.args.matrix.now c.improve.new.matrix c.args.codes.now c.improve.new.marks = record {
+    c.args.matrix.now c.improve.new.matrix c.args.links.now c.improve.new.links = record {
       at = c.place-at.result;
       row_there = omega arith;
       column_there = omega arith;
@@ -15,6 +15,6 @@ returns g c =
       room_beside = omega arith;
       at_is = c.place-at.ensures.place;
       matrix_is = c.improve.ensures.matrix;
-      codes_are = c.improve.ensures.marks;
+      links_are = c.improve.ensures.links;
     } in
     record { filled = put_filled K n t; rest = put_rest K n t }

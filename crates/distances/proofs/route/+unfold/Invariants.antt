@@ -1,6 +1,7 @@
--- The middle of a way falls with each call. Assumes nothing.
-use Rattle.distances.specs.Matrix.{numbers}
+-- The rank of a way's link falls with each call. Assumes nothing.
+use Rattle.distances.specs.Matrix.{linked}
+use Rattle.distances.specs.Table.{rank}
 use Rattle.distances.proofs.route.+unfold.Given as goal
 
 abbrev pub decreases-unfold : goal.decreases-unfold
-decreases-unfold l = numbers l.n l.middles.now l.way.from l.way.to
+decreases-unfold l = rank (linked l.n l.links.now l.way.from l.way.to)
