@@ -14,7 +14,6 @@ use Rattle.networks.specs.Legal.{Legal}
 use Rattle.distances.specs.Limits.{largest_total}
 use Rattle.distances.specs.Graph.{Edge, NegativeCycle}
 use Rattle.distances.specs.Distance.{Least, LeastTotals}
-use Rattle.distances.specs.declared.link.Link.{Link}
 use Rattle.distances.specs.declared.link.Link.TheVariants.{Direct}
 use Rattle.distances.specs.Table.{Table, Links, AtMost, stage, stage_links, closes, Done}
 use Rattle.distances.specs.Edges.{Coded, least_edge}

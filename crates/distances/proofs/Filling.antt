@@ -7,8 +7,11 @@ use Rattle.networks.specs.declared.window.Window.{Window}
 use Rattle.networks.specs.Network.{Condition, Network, condition_at, window_of}
 use Rattle.networks.specs.Hull.{hulls}
 use Rattle.layers.proofs.Hulls.{hull_at}
+use Rattle.distances.specs.declared.edges.Edge.{Edge}
+use Rattle.distances.specs.declared.edges.Edge.TheVariants.{Forward, Back}
+use Rattle.networks.specs.Legal.{Legal}
 use Rattle.distances.specs.Begun.{begun, Filled}
-use Rattle.distances.specs.Edges.{Coded, coded, weight, only_at, lesser, least_edge}
+use Rattle.distances.specs.Edges.{Coded, coded, weight, only_at, condition_of, leaves, reaches, lesser, least_edge}
 use Rattle.distances.specs.Graph.{hull_of}
 use Rattle.distances.specs.Matrix.{table, linked, Rest}
 use Rattle.distances.specs.Memory.{put_first}
@@ -28,6 +31,12 @@ module _ {S : Type 0} (K : Kind S) (N M : Network S) (k : ℕ) (e : M ≡ hulls 
 
   pub low_end : (window_of (condition_at M k) 0).low ≡ (hull_of K N k).low
   low_end = ap (λ (w : Window S). w.low) hull_window
+
+-- ---- an edge of a condition leads between points that are there
+pub edge_there : {S : Type 0} {K : Kind S} (N : Network S) (e : Edge) → Legal K N → condition_of e < length N.conditions
+    → (leaves N e < N.points) × (reaches N e < N.points)
+edge_there N (Forward k) legal l = let c = legal.each_condition k l in (c.from_there, c.to_there)
+edge_there N (Back k) legal l = let c = legal.each_condition k l in (c.to_there, c.from_there)
 
 -- ---- one edge beside the least so far
 module _ {S : Type 0} (K : Kind S) where

@@ -15,5 +15,6 @@ pub mod Matrices
 mod Relaxing
 mod Filling
 mod Unfoldings
+mod Searching
 pub mod Endings
 mod Contradictions

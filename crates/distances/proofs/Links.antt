@@ -1,5 +1,5 @@
 -- Links: an edge is not a way over a point, and each has one code or one point. Assumes nothing.
-use Rattle.std.proofs.Common.{◌≡◌, ℕ, zero, Bool, true, false, ap, refl, arith}
+use Rattle.std.proofs.Common.{◌≡◌, ℕ, true, ap, refl, arith}
 use Rattle.std.proofs.lemmas.Bool.{both_ways}
 use Rattle.distances.specs.declared.link.Link.{Link}
 use Rattle.distances.specs.declared.link.Link.TheVariants.{Direct, Over}

@@ -8,7 +8,7 @@ ghost use Rattle.distances.specs.Table.{joined, below_zero, closes};
 ghost use Rattle.distances.specs.Unfolding.{Unfolds, Falls, CycleWritten};
 
 use crate::link::Link;
-use crate::matrix::{blank, entry};
+use crate::matrix::entry;
 use crate::route::{Way, unfold};
 use spans::Span;
 
@@ -24,12 +24,9 @@ pub struct ClosingEdge {
 fn adds_up_below_zero<S: Span>(x: Option<S>, y: Option<S>) -> bool
     ensures { result ≡ below_zero S.Span.kind (joined S.Span.kind x y) }
 {
-    if let (Some(a), Some(b)) = (x, y) {
-        if let Some(sum) = a.sum(b) {
-            return sum.is_less(S::zero());
-        }
-    }
-    false
+    x.zip(y)
+        .and_then(|(a, b)| a.sum(b))
+        .is_some_and(|sum| sum.is_less(S::zero()))
 }
 
 // The edge from i to k, where it closes the way from k to i below zero.
@@ -71,12 +68,7 @@ pub(crate) fn find_closing<S: Span>(
         ((i : ℕ) → i < k → closes S.Span.kind (table n matrix.now) (linked n links.now) k i ≡ false)
         (FoundEdge S.Span.kind (table n matrix.now) (linked n links.now) k) }
 {
-    for i in 0..k {
-        if let Some(edge) = closing_edge(matrix, links, n, k, i) {
-            return Some(edge);
-        }
-    }
-    None
+    (0..k).find_map(|i| closing_edge(matrix, links, n, k, i))
 }
 
 // Writes the codes of a cycle to the front of `cycle`: the way from the edge's first point to its last, and then the edge back.
@@ -113,6 +105,6 @@ pub(crate) fn give_up<S: Span>(
     ensures blank { matrix.new ≡ blanked n matrix.old }
 {
     let edges = write_cycle(links, n, edge, cycle);
-    blank(matrix, n, None);
+    matrix[..n * n].fill(None);
     edges
 }

@@ -2,7 +2,6 @@
 ghost use Rattle.std.specs.Prelude.{◌≡◌, ◌+◌, ◌*◌, ◌<◌, ◌≤◌, length, replicate, if◌then◌else◌, None, slice_index_or, slice_set};
 ghost use Rattle.networks.specs.Limits.{most_points};
 ghost use Rattle.distances.specs.Matrix.{square};
-ghost use Rattle.distances.specs.Memory.{put_first};
 ghost use Rattle.distances.specs.Table.{beats};
 
 use crate::link::Link;
@@ -25,25 +24,11 @@ pub(crate) fn entry<A: Copy>(cells: &[A], n: usize, i: usize, j: usize) -> A
     cells[place(n, i, j)]
 }
 
-// Writes `value` into the first n×n cells.
-pub(crate) fn blank<A: Copy>(cells: &mut [A], n: usize, value: A)
-    requires { (n ≤ most_points) × (n * n ≤ length cells.old) }
-    ensures { cells.new ≡ put_first (replicate (n * n) value) cells.old }
-{
-    for at in 0..n * n {
-        cells[at] = value;
-    }
-}
-
 // Whether y is there, and x is missing or greater.
 fn is_better<S: Span>(y: Option<S>, x: Option<S>) -> bool
     ensures { result ≡ beats S.Span.kind y x }
 {
-    match (y, x) {
-        (None, _) => false,
-        (Some(_), None) => true,
-        (Some(b), Some(a)) => b.is_less(a),
-    }
+    y.is_some_and(|b| x.is_none_or(|a| b.is_less(a)))
 }
 
 // Writes `way` with its link where the entry is missing or greater.

@@ -13,10 +13,7 @@ use spans::Span;
 fn way_on<S: Span>(front: S, back: Option<S>) -> Option<S>
     ensures { result ≡ joined S.Span.kind (Some front) back }
 {
-    match back {
-        Some(b) => front.sum(b),
-        None => None,
-    }
+    front.sum(back?)
 }
 
 // The entry at `at`, by the way that begins with `front` and goes on by the entry at `back`.

@@ -1,17 +1,18 @@
-use Rattle.std.proofs.Common.{◌≡◌, ℕ, ◌*◌, length, drop, None, sym, refl, ap, ◌∙◌, subst, add-one, arith}
+use Rattle.std.proofs.Common.{◌≡◌, ℕ, ◌*◌, length, drop, None, sym, refl, ap, ◌∙◌, subst, add-one, arith, rules}
+use Rattle.distances.specs.declared.link.Link.TheVariants.{Direct}
 use Rattle.distances.specs.Begun.{Filled}
 use Rattle.distances.specs.Edges.{least_edge}
-use Rattle.distances.specs.Matrix.{linked}
-use Rattle.distances.proofs.Matrices.{blank_rest}
+use Rattle.distances.proofs.Matrices.{blank_all, blank_rest}
 use Rattle.distances.proofs.Filling.{none_filled, begun_is}
 use Rattle.distances.proofs.edges.fill_edges.Goals as goal
 
 pub loop-k-init : goal.loop-k-init
-loop-k-init g c = (
-  simp (c.blank.ensures, c.blank-2.ensures)
-      (none_filled g.T.Span.Span.kind (g.T.Source.means c.args.source.now) c.args.n c.args.matrix.now c.args.links.now),
-  refl,
-)
+loop-k-init g c =
+    let blank = blank_all None c.args.n None c.args.matrix.now (omega arith) (c.fill.ensures.after (λ y h. search rules)) in
+    let straight = blank_all (Direct 0) c.args.n (Direct 0) c.args.links.now (omega arith) (c.fill-2.ensures.after (λ y h. search rules)) in (
+      rw (blank, straight) (none_filled g.T.Span.Span.kind (g.T.Source.means c.args.source.now) c.args.n c.args.matrix.now c.args.links.now),
+      refl,
+    )
 
 pub loop-k-preserved : goal.loop-k-preserved
 loop-k-preserved g c =
@@ -36,5 +37,6 @@ returns g c =
       straight = filled.straight;
       rest =
           c.put_zeros.ensures.rest ∙ c.loop-k.invariant.1
-          ∙ ap (drop (n * n)) c.blank.ensures ∙ blank_rest None n None c.args.matrix.now;
+          ∙ ap (drop (n * n)) (blank_all None n None c.args.matrix.now (omega arith) (c.fill.ensures.after (λ y h. search rules)))
+          ∙ blank_rest None n None c.args.matrix.now;
     }

@@ -1,6 +1,6 @@
 -- One edge is written, or the first half and behind it the second. Assumes nothing.
-use Rattle.std.proofs.Common.{◌≡◌, ◌-◌, length, take, drop, sym, refl, arith}
-use Rattle.distances.specs.declared.link.Link.TheVariants.{Direct, Over}
+use Rattle.std.proofs.Common.{◌-◌, length, take, drop, sym, refl, arith}
+use Rattle.distances.specs.declared.link.Link.TheVariants.{Direct}
 use Rattle.distances.specs.Matrix.{linked}
 use Rattle.distances.proofs.Unfoldings.{edge_fits, unfolded_edge, first_half, second_half, whole_within, unfolded_halves, first_falls, second_falls, behind_length}
 use Rattle.distances.proofs.route.+unfold.Goals as goal
