@@ -12,30 +12,6 @@ use crate::relax::relax_stage;
 use networks::Source;
 use spans::Span;
 
-// The stages, for n points.
-fn close_points<T: Source>(
-    source: &T,
-    n: usize,
-    matrix: &mut [Option<T::Span>],
-    links: &mut [Link],
-) -> Option<ClosingEdge>
-    requires points { n ≡ (T.Source.means source.now).points }
-    requires legal { Legal T.Span.Span.kind (T.Source.means source.now) }
-    requires room { (n * n ≤ length matrix.old) × (n * n ≤ length links.old) }
-    ensures ends { MatchOption result (Closes T.Span.Span.kind (T.Source.means source.now) matrix.new)
-        (λ e. CannotClose T.Span.Span.kind (T.Source.means source.now) (linked n links.new) e.first e.last e.code) }
-    ensures rest { Rest n matrix.old matrix.new }
-{
-    fill_edges(source, n, matrix, links);
-    for k in 0..n {
-        if let Some(edge) = find_closing(matrix, links, n, k) {
-            return Some(edge);
-        }
-        relax_stage(matrix, links, n, k);
-    }
-    None
-}
-
 // Leaves the least totals in the matrix, or answers the edge that closes a way below zero; the links then give that way,
 // and the matrix is of no use. What stood in the memory does not matter; past n×n the links are free.
 pub fn close<T: Source>(
@@ -50,5 +26,13 @@ pub fn close<T: Source>(
         e.first e.last e.code) }
     ensures rest { Rest (T.Source.means source.now).points matrix.old matrix.new }
 {
-    close_points(source, source.points(), matrix, links)
+    let n = source.points();
+    fill_edges(source, n, matrix, links);
+    for k in 0..n {
+        if let Some(edge) = find_closing(matrix, links, n, k) {
+            return Some(edge);
+        }
+        relax_stage(matrix, links, n, k);
+    }
+    None
 }

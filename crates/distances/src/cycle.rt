@@ -1,6 +1,5 @@
 // The looking for a cycle below zero: an edge to a middle point that closes the way from it. Assumes that the memory has room, as each requires.
 ghost use Rattle.std.specs.Prelude.{◌≡◌, ℕ, suc, ◌*◌, ◌<◌, ◌≤◌, false, List, length, MatchOption};
-ghost use Rattle.networks.specs.Limits.{most_points};
 ghost use Rattle.distances.specs.Matrix.{table, linked};
 ghost use Rattle.distances.specs.Closing.{FoundEdge};
 ghost use Rattle.distances.specs.Memory.{blanked};
@@ -37,7 +36,7 @@ fn closing_edge<S: Span>(
     k: usize,
     i: usize,
 ) -> Option<ClosingEdge>
-    requires points { (n ≤ most_points) × ((k < n) × (i < k)) }
+    requires points { (k < n) × (i < k) }
     requires room { (n * n ≤ length matrix.now) × (n * n ≤ length links.now) }
     ensures { MatchOption result (closes S.Span.kind (table n matrix.now) (linked n links.now) k i ≡ false)
         (FoundEdge S.Span.kind (table n matrix.now) (linked n links.now) k) }
@@ -62,7 +61,7 @@ pub(crate) fn find_closing<S: Span>(
     n: usize,
     k: usize,
 ) -> Option<ClosingEdge>
-    requires points { (n ≤ most_points) × (k < n) }
+    requires points { k < n }
     requires room { (n * n ≤ length matrix.now) × (n * n ≤ length links.now) }
     ensures { MatchOption result
         ((i : ℕ) → i < k → closes S.Span.kind (table n matrix.now) (linked n links.now) k i ≡ false)
@@ -74,7 +73,7 @@ pub(crate) fn find_closing<S: Span>(
 // Writes the codes of a cycle to the front of `cycle`: the way from the edge's first point to its last, and then the edge back.
 // Answers how many.
 fn write_cycle(links: &[Link], n: usize, edge: ClosingEdge, cycle: &mut [u16]) -> usize
-    requires points { (n ≤ most_points) × ((edge.first < n) × (edge.last < n)) }
+    requires points { (edge.first < n) × (edge.last < n) }
     requires room { n * n ≤ length links.now }
     requires falls { Falls n (linked n links.now) }
     requires fits { (cs ps : List ℕ) → Unfolds (linked n links.now) edge.first edge.last cs ps → suc (length cs) ≤ length cycle.old }
@@ -97,7 +96,7 @@ pub(crate) fn give_up<S: Span>(
     matrix: &mut [Option<S>],
     cycle: &mut [u16],
 ) -> usize
-    requires points { (n ≤ most_points) × ((edge.first < n) × (edge.last < n)) }
+    requires points { (edge.first < n) × (edge.last < n) }
     requires room { (n * n ≤ length links.now) × (n * n ≤ length matrix.old) }
     requires falls { Falls n (linked n links.now) }
     requires fits { (cs ps : List ℕ) → Unfolds (linked n links.now) edge.first edge.last cs ps → suc (length cs) ≤ length cycle.old }

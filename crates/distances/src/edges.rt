@@ -1,7 +1,7 @@
 // The edges of a source's hulls in a matrix, with their links. Assumes that the source's network is legal and that the memory has room, as each requires.
 ghost use Rattle.std.specs.Prelude.{◌≡◌, ℕ, suc, ◌+◌, ◌*◌, ◌<◌, ◌≤◌, length, if◌then◌else◌, Some, None, nat_eq, nat_lt, true};
 ghost use Rattle.networks.specs.Legal.{Legal};
-ghost use Rattle.networks.specs.Limits.{most_points, most_conditions};
+ghost use Rattle.networks.specs.Limits.{most_conditions};
 ghost use Rattle.distances.specs.Begun.{begun, Filled};
 ghost use Rattle.distances.specs.Edges.{Coded, condition_of, leaves, reaches, edge_weight, edge_code, edge_at, lesser, least_edge};
 ghost use Rattle.distances.specs.Table.{is_direct};
@@ -70,7 +70,7 @@ fn put_edge<T: Source>(
     matrix: &mut [Option<T::Span>],
     links: &mut [Link],
 )
-    requires points { (n ≡ (T.Source.means source.now).points) × ((n ≤ most_points) × (condition_of edge < length (T.Source.means source.now).conditions)) }
+    requires points { (n ≡ (T.Source.means source.now).points) × (condition_of edge < length (T.Source.means source.now).conditions) }
     requires room { (n * n ≤ length matrix.old) × (n * n ≤ length links.old) }
     requires legal { Legal T.Span.Span.kind (T.Source.means source.now) }
     ensures filled { (edges : ℕ → ℕ → Coded T.Span) → Filled n edges matrix.old links.old
@@ -95,7 +95,7 @@ fn put_condition<T: Source>(
     matrix: &mut [Option<T::Span>],
     links: &mut [Link],
 )
-    requires points { (n ≡ (T.Source.means source.now).points) × ((n ≤ most_points) × (k < length (T.Source.means source.now).conditions)) }
+    requires points { (n ≡ (T.Source.means source.now).points) × (k < length (T.Source.means source.now).conditions) }
     requires room { (n * n ≤ length matrix.old) × (n * n ≤ length links.old) }
     requires legal { Legal T.Span.Span.kind (T.Source.means source.now) }
     requires filled { Filled n (least_edge T.Span.Span.kind (T.Source.means source.now) k) matrix.old links.old }
@@ -108,7 +108,7 @@ fn put_condition<T: Source>(
 
 // Zero from each point to itself.
 fn put_zeros<S: Span>(matrix: &mut [Option<S>], n: usize)
-    requires { (n ≤ most_points) × (n * n ≤ length matrix.old) }
+    requires { n * n ≤ length matrix.old }
     ensures matrix { (i j : ℕ) → table n matrix.new i j ≡ (if nat_eq i j then (if nat_lt i n then Some S.Span.kind.zero else None) else table n matrix.old i j) }
     ensures rest { Rest n matrix.old matrix.new }
 {
@@ -125,7 +125,7 @@ pub(crate) fn fill_edges<T: Source>(
     matrix: &mut [Option<T::Span>],
     links: &mut [Link],
 )
-    requires points { (n ≡ (T.Source.means source.now).points) × (n ≤ most_points) }
+    requires points { n ≡ (T.Source.means source.now).points }
     requires room { (n * n ≤ length matrix.old) × (n * n ≤ length links.old) }
     requires legal { Legal T.Span.Span.kind (T.Source.means source.now) }
     ensures matrix { (i j : ℕ) → table n matrix.new i j ≡ begun T.Span.Span.kind (T.Source.means source.now) i j }

@@ -1,6 +1,5 @@
-// Reading and blanking a matrix of n rows in lent memory: the entry of (i, j) stands at place i×n + j. Assumes that the memory has room, as each requires.
-ghost use Rattle.std.specs.Prelude.{◌≡◌, ◌+◌, ◌*◌, ◌<◌, ◌≤◌, length, replicate, if◌then◌else◌, None, slice_index_or, slice_set};
-ghost use Rattle.networks.specs.Limits.{most_points};
+// Reading and improving a matrix of n rows in lent memory: the entry of (i, j) stands at place i×n + j. Assumes that the memory has room, as each requires.
+ghost use Rattle.std.specs.Prelude.{◌≡◌, ◌+◌, ◌*◌, ◌^◌, ◌<◌, ◌≤◌, length, if◌then◌else◌, None, slice_index_or, slice_set};
 ghost use Rattle.distances.specs.Matrix.{square};
 ghost use Rattle.distances.specs.Table.{beats};
 
@@ -9,7 +8,7 @@ use spans::Span;
 
 // The place of (i, j).
 pub(crate) fn place(n: usize, i: usize, j: usize) -> usize
-    requires { (n ≤ most_points) × ((i < n) × (j < n)) }
+    requires { (n * n < 2 ^ 64) × ((i < n) × (j < n)) }
     ensures place { result ≡ i * n + j }
     ensures within { result < n * n }
 {
@@ -18,7 +17,7 @@ pub(crate) fn place(n: usize, i: usize, j: usize) -> usize
 
 // What stands at (i, j).
 pub(crate) fn entry<A: Copy>(cells: &[A], n: usize, i: usize, j: usize) -> A
-    requires { (n ≤ most_points) × ((i < n) × ((j < n) × (n * n ≤ length cells.now))) }
+    requires { (n * n ≤ length cells.now) × ((i < n) × (j < n)) }
     ensures { (z : A) → result ≡ square z n cells.now i j }
 {
     cells[place(n, i, j)]

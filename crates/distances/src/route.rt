@@ -1,6 +1,5 @@
 // A way unfolded from its links into the codes of its edges. Assumes what each requires: room in the lent memory, and links that fall.
 ghost use Rattle.std.specs.Prelude.{◌≡◌, ◌*◌, ◌≤◌, length};
-ghost use Rattle.networks.specs.Limits.{most_points};
 ghost use Rattle.distances.specs.Matrix.{linked};
 ghost use Rattle.distances.specs.Unfolding.{Unfoldable, Unfolded};
 
@@ -17,7 +16,7 @@ pub(crate) struct Way {
 // Writes the codes of the way to the front of `out`, and answers how many edges it has. A way over a point is the way to that point
 // and then the way from it; both rank lower.
 pub(crate) fn unfold(links: &[Link], n: usize, way: Way, out: &mut [u16]) -> usize
-    requires room { (n ≤ most_points) × (n * n ≤ length links.now) }
+    requires room { n * n ≤ length links.now }
     requires way { Unfoldable n (linked n links.now) way.from way.to (length out.old) }
     ensures within { result ≤ length out.old }
     ensures unfolded { Unfolded (linked n links.now) way.from way.to out.old out.new result }

@@ -3,15 +3,6 @@ use Rattle.distances.proofs.Matrices.{place_below}
 use Rattle.distances.proofs.Relaxing.{Turn, turn_matrix, turn_links, place_rest}
 use Rattle.distances.proofs.relax.relax_part.Goals as goal
 
-pub loop-j-init : goal.loop-j-init
-loop-j-init g c = (λ d m f u v. (u, v), refl)
-
-pub relax_entry-requires : goal.relax_entry-requires
-relax_entry-requires g c =
-    let here = place_below c.args.n c.args.i c.loop-j.j (omega arith) (omega arith) in
-    let there = place_below c.args.n c.args.k c.loop-j.j (omega arith) (omega arith) in
-    (omega arith, (omega arith, omega arith))
-
 pub loop-j-preserved : goal.loop-j-preserved
 loop-j-preserved g c =
     let K = g.S.Span.kind in

@@ -5,11 +5,6 @@ use Rattle.distances.specs.Unfolding.{Falls}
 use Rattle.distances.proofs.Contradictions.{entries_few, contradicted, with_number}
 use Rattle.distances.proofs.tightening.tighten_checked.Goals as goal
 
-pub close-requires : goal.close-requires
-close-requires g c =
-    let N = g.T.Source.means c.args.source.now in
-    record { legal = c.requires.legal; room = (c.requires.room.0, entries_few N.points c.requires.legal.few_points) }
-
 pub give_up-edges-requires : goal.give_up-edges-requires
 give_up-edges-requires g c =
     let N = g.T.Source.means c.args.source.now in
@@ -19,7 +14,7 @@ give_up-edges-requires g c =
     let edge = c.in-Some.edge in
     let no = with_number g.T.Span.Span.kind N c.args.matrix.now c.args.cycle.now n c.close.new.links edge.first edge.last edge.code is c.in-Some.ensures.ends in
     record {
-      points = (omega (arith, c.requires.legal.few_points), (omega (arith, no.first_there), omega (arith, no.last_there)));
+      points = (omega (arith, no.first_there), omega (arith, no.last_there));
       room = omega (arith, ap (λ (m : ℕ). m * m) is);
       falls = subst (λ (m : ℕ). Falls m (linked n c.close.new.links)) (sym is) no.closing.falls;
       fits = λ cs ps x. omega (arith, no.closing.few cs ps x);

@@ -2,7 +2,7 @@
 use Rattle.distances.specs.Limits.{largest_total}
 use Rattle.distances.specs.Matrix.{table, linked, Rest}
 use Rattle.distances.proofs.Stages.{Stands}
-use Rattle.distances.proofs.closing.close_points.Given as goal
+use Rattle.distances.proofs.closing.close.Given as goal
 
 abbrev pub invariant-loop-k : goal.invariant-loop-k
 invariant-loop-k g l =
