@@ -32,16 +32,6 @@ returns-in-Some g c =
       rest = subst (λ (m : ℕ). Rest m c.args.matrix.now c.loop-k.matrix) is (c.loop-k.invariant.1 ∙ c.fill_edges.ensures.rest);
     }
 
-pub relax_stage-requires : goal.relax_stage-requires
-relax_stage-requires g c =
-    let both = ap (λ (m : ℕ). m * m) c.points-n.ensures in
-    record {
-      points = omega arith;
-      room = omega arith;
-      diagonal = c.loop-k.invariant.0.diagonal c.loop-k.k (omega arith);
-      small = λ i j a e. omega (arith, c.loop-k.invariant.0.small i j a e);
-    }
-
 pub loop-k-preserved : goal.loop-k-preserved
 loop-k-preserved g c =
     let N = g.T.Source.means c.args.source.now in
@@ -53,13 +43,10 @@ loop-k-preserved g c =
       relaxed.rest ∙ c.loop-k.invariant.1,
     )
 
-pub returns : goal.returns
-returns g c =
+pub returns-clause-ends : goal.returns-clause-ends
+returns-clause-ends g c =
     let N = g.T.Source.means c.args.source.now in
     let n = c.points-n.result in
     let is : n ≡ N.points = c.points-n.ensures in
     let all : c.loop-k.k ≡ N.points = omega arith in
-    record {
-      ends = standing_ends g.met.T.Span.Span.lawful N c.requires.legal n c.loop-k.k c.loop-k.matrix (linked n c.loop-k.links) is all c.loop-k.invariant.0;
-      rest = subst (λ (m : ℕ). Rest m c.args.matrix.now c.loop-k.matrix) is (c.loop-k.invariant.1 ∙ c.fill_edges.ensures.rest);
-    }
+    standing_ends g.met.T.Span.Span.lawful N c.requires.legal n c.loop-k.k c.loop-k.matrix (linked n c.loop-k.links) is all c.loop-k.invariant.0

@@ -30,7 +30,7 @@ loop-j-preserved g c =
           (omega arith) (omega arith) (omega arith) (omega arith) c.relax_entry.ensures.matrix ∙ inv.1,
     )
 
-pub returns : goal.returns
-returns g c =
+pub returns-clause-taken : goal.returns-clause-taken
+returns-clause-taken g c =
     let e : c.loop-j.j ≡ c.args.end = omega arith in
-    record { taken = rw e at c.loop-j.invariant.0; rest = c.loop-j.invariant.1 }
+    rw e at c.loop-j.invariant.0
