@@ -8,6 +8,7 @@ ghost use Rattle.distances.specs.Table.{joined, beats, stage, stage_links, Small
 use crate::link::Link;
 use crate::matrix::{entry, improve, place};
 use spans::Span;
+use std::ops::Range;
 
 // The way on from the span `front` by an entry.
 fn way_on<S: Span>(front: S, back: Option<S>) -> Option<S>
@@ -35,7 +36,7 @@ fn relax_entry<S: Span>(
     improve(matrix, links, at, way, link);
 }
 
-// The entries of row i from `start` to before `end`, where its entry to k is `front`; that of i itself is not among them.
+// The entries of row i in the columns of `part`, where its entry to k is `front`; that of i itself is not among them.
 fn relax_part<S: Span>(
     matrix: &mut [Option<S>],
     links: &mut [Link],
@@ -43,19 +44,18 @@ fn relax_part<S: Span>(
     k: usize,
     i: usize,
     front: S,
-    start: usize,
-    end: usize,
+    part: Range<usize>,
 )
-    requires points { (n ≤ most_points) × ((i < n) × ((k < n) × ((start ≤ end) × (end ≤ n)))) }
-    requires apart { (j : ℕ) → start ≤ j → j < end → i ≢ j }
+    requires points { (n ≤ most_points) × ((i < n) × ((k < n) × ((part.start ≤ part.end) × (part.end ≤ n)))) }
+    requires apart { (j : ℕ) → part.start ≤ j → j < part.end → i ≢ j }
     requires room { (n * n ≤ length matrix.old) × (n * n ≤ length links.old) }
-    ensures taken { RowTaken S.Span.kind n k i front matrix.old matrix.new links.old links.new start end }
+    ensures taken { RowTaken S.Span.kind n k i front matrix.old matrix.new links.old links.new part.start part.end }
     ensures rest { Rest n matrix.old matrix.new }
 {
     let row = place(n, i, 0);
     let via = place(n, k, 0);
     let link = Link::Over(k as u8);
-    for j in start..end {
+    for j in part.start..part.end {
         relax_entry(matrix, links, row + j, front, via + j, link);
     }
 }
@@ -77,8 +77,8 @@ fn relax_row<S: Span>(
         (stage_links S.Span.kind (table n matrix.old) (linked n links.old) k) i n }
     ensures rest { Rest n matrix.old matrix.new }
 {
-    relax_part(matrix, links, n, k, i, front, 0, i);
-    relax_part(matrix, links, n, k, i, front, i + 1, n);
+    relax_part(matrix, links, n, k, i, front, 0..i);
+    relax_part(matrix, links, n, k, i, front, i + 1..n);
 }
 
 // The stage over k: each row by its entry to k; a row without one stays, and so does that of k itself.
@@ -93,9 +93,8 @@ pub(crate) fn relax_stage<S: Span>(matrix: &mut [Option<S>], links: &mut [Link],
 {
     for i in 0..n {
         if i != k {
-            let front = entry(matrix, n, i, k);
-            if let Some(a) = front {
-                relax_row(matrix, links, n, k, i, a);
+            if let Some(front) = entry(matrix, n, i, k) {
+                relax_row(matrix, links, n, k, i, front);
             }
         }
     }

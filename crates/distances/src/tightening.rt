@@ -8,11 +8,11 @@ use crate::closing::close;
 use crate::cycle::give_up;
 use crate::link::Link;
 use checks::check;
-use networks::{Fault, Lent, Source};
+use networks::{Fault, Lent, MOST_POINTS, Source};
 use spans::Span;
 
-// The entries of the largest matrix: 48 points by 48.
-const MOST_ENTRIES: usize = 2304;
+// The entries of the largest matrix.
+const MOST_ENTRIES: usize = MOST_POINTS * MOST_POINTS;
 
 // For a source whose network is legal, and memory that suffices, as the checks show.
 fn tighten_checked<T: Source>(

@@ -32,5 +32,5 @@ loop-j-preserved g c =
 
 pub returns-clause-taken : goal.returns-clause-taken
 returns-clause-taken g c =
-    let e : c.loop-j.j ≡ c.args.end = omega arith in
+    let e : c.loop-j.j ≡ c.args.part.end = omega arith in
     rw e at c.loop-j.invariant.0
