@@ -9,6 +9,7 @@ use crate::cycle::{ClosingEdge, find_closing};
 use crate::edges::fill_edges;
 use crate::link::Link;
 use crate::relax::relax_stage;
+use crate::route::Ways;
 use networks::Source;
 use spans::Span;
 
@@ -29,7 +30,7 @@ pub fn close<T: Source>(
     let n = source.points();
     fill_edges(source, n, matrix, links);
     for k in 0..n {
-        if let Some(edge) = find_closing(matrix, links, n, k) {
+        if let Some(edge) = find_closing(matrix, &Ways { n, links }, k) {
             return Some(edge);
         }
         relax_stage(matrix, links, n, k);

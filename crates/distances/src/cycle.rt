@@ -8,7 +8,7 @@ ghost use Rattle.distances.specs.Unfolding.{Unfolds, Falls, CycleWritten};
 
 use crate::link::Link;
 use crate::matrix::entry;
-use crate::route::{Way, unfold};
+use crate::route::{Way, Ways};
 use spans::Span;
 
 // An edge of a code from `last` back to `first` that closes the way from `first` to `last` below zero.
@@ -31,25 +31,24 @@ fn adds_up_below_zero<S: Span>(x: Option<S>, y: Option<S>) -> bool
 // The edge from i to k, where it closes the way from k to i below zero.
 fn closing_edge<S: Span>(
     matrix: &[Option<S>],
-    links: &[Link],
-    n: usize,
+    ways: &Ways,
     k: usize,
     i: usize,
 ) -> Option<ClosingEdge>
-    requires points { (k < n) × (i < k) }
-    requires room { (n * n ≤ length matrix.now) × (n * n ≤ length links.now) }
-    ensures { MatchOption result (closes S.Span.kind (table n matrix.now) (linked n links.now) k i ≡ false)
-        (FoundEdge S.Span.kind (table n matrix.now) (linked n links.now) k) }
+    requires points { (k < ways.now.n) × (i < k) }
+    requires room { ways.now.n * ways.now.n ≤ length matrix.now }
+    ensures { MatchOption result (closes S.Span.kind (table ways.now.n matrix.now) (linked ways.now.n ways.now.links.now) k i ≡ false)
+        (FoundEdge S.Span.kind (table ways.now.n matrix.now) (linked ways.now.n ways.now.links.now) k) }
 {
-    match entry(links, n, i, k) {
-        Link::Direct(code) if adds_up_below_zero(entry(matrix, n, i, k), entry(matrix, n, k, i)) =>
-            {
-                Some(ClosingEdge {
-                    first: k,
-                    last: i,
-                    code,
-                })
-            }
+    match ways.link(i, k) {
+        Link::Direct(code)
+            if adds_up_below_zero(entry(matrix, ways.n, i, k), entry(matrix, ways.n, k, i)) => {
+            Some(ClosingEdge {
+                first: k,
+                last: i,
+                code,
+            })
+        }
         _ => None,
     }
 }
@@ -57,53 +56,50 @@ fn closing_edge<S: Span>(
 // The edge to k from the first point below it that closes the way from k below zero.
 pub(crate) fn find_closing<S: Span>(
     matrix: &[Option<S>],
-    links: &[Link],
-    n: usize,
+    ways: &Ways,
     k: usize,
 ) -> Option<ClosingEdge>
-    requires points { k < n }
-    requires room { (n * n ≤ length matrix.now) × (n * n ≤ length links.now) }
+    requires points { k < ways.now.n }
+    requires room { ways.now.n * ways.now.n ≤ length matrix.now }
     ensures { MatchOption result
-        ((i : ℕ) → i < k → closes S.Span.kind (table n matrix.now) (linked n links.now) k i ≡ false)
-        (FoundEdge S.Span.kind (table n matrix.now) (linked n links.now) k) }
+        ((i : ℕ) → i < k → closes S.Span.kind (table ways.now.n matrix.now) (linked ways.now.n ways.now.links.now) k i ≡ false)
+        (FoundEdge S.Span.kind (table ways.now.n matrix.now) (linked ways.now.n ways.now.links.now) k) }
 {
-    (0..k).find_map(|i| closing_edge(matrix, links, n, k, i))
+    (0..k).find_map(|i| closing_edge(matrix, ways, k, i))
 }
 
 // Writes the codes of a cycle to the front of `cycle`: the way from the edge's first point to its last, and then the edge back.
 // Answers how many.
-fn write_cycle(links: &[Link], n: usize, edge: ClosingEdge, cycle: &mut [u16]) -> usize
-    requires points { (edge.first < n) × (edge.last < n) }
-    requires room { n * n ≤ length links.now }
-    requires falls { Falls n (linked n links.now) }
-    requires fits { (cs ps : List ℕ) → Unfolds (linked n links.now) edge.first edge.last cs ps → suc (length cs) ≤ length cycle.old }
-    ensures { CycleWritten (linked n links.now) edge.first edge.last edge.code cycle.old cycle.new result }
+fn write_cycle(ways: &Ways, edge: ClosingEdge, cycle: &mut [u16]) -> usize
+    requires points { (edge.first < ways.now.n) × (edge.last < ways.now.n) }
+    requires falls { Falls ways.now.n (linked ways.now.n ways.now.links.now) }
+    requires fits { (cs ps : List ℕ) → Unfolds (linked ways.now.n ways.now.links.now) edge.first edge.last cs ps → suc (length cs) ≤ length cycle.old }
+    ensures { CycleWritten (linked ways.now.n ways.now.links.now) edge.first edge.last edge.code cycle.old cycle.new result }
 {
     let way = Way {
         from: edge.first,
         to: edge.last,
     };
-    let edges = unfold(links, n, way, cycle);
+    let edges = ways.unfold(way, cycle);
     cycle[edges] = edge.code;
     edges + 1
 }
 
 // What a cycle below zero leaves: its codes in the cycle memory, and the first n×n entries of the matrix blank.
 pub(crate) fn give_up<S: Span>(
-    links: &[Link],
-    n: usize,
+    ways: &Ways,
     edge: ClosingEdge,
     matrix: &mut [Option<S>],
     cycle: &mut [u16],
 ) -> usize
-    requires points { (edge.first < n) × (edge.last < n) }
-    requires room { (n * n ≤ length links.now) × (n * n ≤ length matrix.old) }
-    requires falls { Falls n (linked n links.now) }
-    requires fits { (cs ps : List ℕ) → Unfolds (linked n links.now) edge.first edge.last cs ps → suc (length cs) ≤ length cycle.old }
-    ensures cycle { CycleWritten (linked n links.now) edge.first edge.last edge.code cycle.old cycle.new result }
-    ensures blank { matrix.new ≡ blanked n matrix.old }
+    requires points { (edge.first < ways.now.n) × (edge.last < ways.now.n) }
+    requires room { ways.now.n * ways.now.n ≤ length matrix.old }
+    requires falls { Falls ways.now.n (linked ways.now.n ways.now.links.now) }
+    requires fits { (cs ps : List ℕ) → Unfolds (linked ways.now.n ways.now.links.now) edge.first edge.last cs ps → suc (length cs) ≤ length cycle.old }
+    ensures cycle { CycleWritten (linked ways.now.n ways.now.links.now) edge.first edge.last edge.code cycle.old cycle.new result }
+    ensures blank { matrix.new ≡ blanked ways.now.n matrix.old }
 {
-    let edges = write_cycle(links, n, edge, cycle);
-    matrix[..n * n].fill(None);
+    let edges = write_cycle(ways, edge, cycle);
+    matrix[..ways.n * ways.n].fill(None);
     edges
 }

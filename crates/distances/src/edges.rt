@@ -51,6 +51,7 @@ impl Edge {
         }
     }
 
+    // Kept as a method: `From` asks nothing of its argument, and a code fits its type only below the limit on conditions.
     fn code(self) -> u16
         requires { condition_of self < most_conditions }
         ensures { result ≡ edge_code self }

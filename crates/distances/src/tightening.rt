@@ -7,6 +7,7 @@ ghost use Rattle.distances.specs.Decided.{NetworksDecided};
 use crate::closing::close;
 use crate::cycle::give_up;
 use crate::link::Link;
+use crate::route::Ways;
 use checks::check;
 use networks::{Fault, Lent, MOST_POINTS, Source};
 use spans::Span;
@@ -28,7 +29,11 @@ fn tighten_checked<T: Source>(
     match close(source, matrix, &mut links) {
         None => Ok(()),
         Some(edge) => {
-            let edges = give_up(&links, source.points(), edge, matrix, cycle);
+            let ways = Ways {
+                n: source.points(),
+                links: &links,
+            };
+            let edges = give_up(&ways, edge, matrix, cycle);
             Err(Fault::Cycle(edges))
         }
     }

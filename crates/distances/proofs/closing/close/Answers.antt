@@ -1,5 +1,5 @@
 -- What stands begins, steps and ends; or an edge closes a way below zero. Assumes nothing.
-use Rattle.std.proofs.Common.{◌≡◌, ℕ, ◌*◌, ◌<◌, refl, sym, ap, subst, ◌∙◌, arith}
+use Rattle.std.proofs.Common.{◌≡◌, ℕ, ◌<◌, refl, sym, subst, ◌∙◌, arith}
 use Rattle.distances.specs.Closing.{CannotClose}
 use Rattle.distances.specs.Matrix.{table, linked, Rest}
 use Rattle.distances.proofs.Endings.{standing_begins, standing_steps, standing_refuses, standing_ends}

@@ -5,7 +5,7 @@ use Rattle.distances.proofs.cycle.write_cycle.Goals as goal
 
 pub returns : goal.returns
 returns c =
-    let links = linked c.args.n c.args.links.now in
+    let links = linked c.args.ways.now.n c.args.ways.now.links.now in
     let edge = c.args.edge in
     let x = c.unfold-edges.ensures.unfolded in
     written_cycle links edge.first edge.last c.args.cycle.now c.unfold-edges.new.out edge.code c.unfold-edges.result x

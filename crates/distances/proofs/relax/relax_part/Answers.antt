@@ -1,5 +1,4 @@
 use Rattle.std.proofs.Common.{◌≡◌, ◌+◌, refl, ◌∙◌, arith}
-use Rattle.distances.proofs.Matrices.{place_below}
 use Rattle.distances.proofs.Relaxing.{Turn, turn_matrix, turn_links, place_rest}
 use Rattle.distances.proofs.relax.relax_part.Goals as goal
 
