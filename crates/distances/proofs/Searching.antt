@@ -27,8 +27,9 @@ module _ {F E : Type 0} (g : Mut F (ℕ × Unit {0}) (Option E)) (f : F) (k : �
       λ i l. miss i (if_there _ (p.at i) i (all keeps i) (up.3 i (omega (arith, up.1 whole)) ∙ ap (λ (n : ℕ). Some n) (omega arith)))
   by_run p e (Some y) (i, lt, len, first) = let (x, called) = is_there _ (p.at i) ((first keeps).0) in hit x y called
 
-  pub found : (r : Option E)
-      → SomeRun nat_range_steps (record { start = 0; end = k }) (λ p. MatchOption r ((p.whole ≡ true) × AllItemsGive p g f None)
+  -- over the numbers below e, where e is k
+  pub found : (r : Option E) {e : ℕ}
+      → SomeRun nat_range_steps (record { start = 0; end = e }) (λ p. MatchOption r ((p.whole ≡ true) × AllItemsGive p g f None)
       (λ y. (i : ℕ) × (i < p.len) × (p.len ≡ i + 1) × IsFirstToGive p g f (Some y) None i))
-      → MatchOption r ((i : ℕ) → i < k → No i) Hit
-  found r (p, e, m) = by_run p e r m
+      → e ≡ k → MatchOption r ((i : ℕ) → i < k → No i) Hit
+  found r (p, from, m) same = by_run p (from ∙ ap (λ (z : ℕ). record { start = 0; end = z }) same) r m

@@ -13,6 +13,22 @@ pub(crate) struct Way {
     pub(crate) to: usize,
 }
 
+impl Way {
+    // The first half of a way over m.
+    fn up_to(self, m: usize) -> Way
+        ensures { result ≡ record { from = self.from; to = m } }
+    {
+        Way { to: m, ..self }
+    }
+
+    // The second half.
+    fn on_from(self, m: usize) -> Way
+        ensures { result ≡ record { from = m; to = self.to } }
+    {
+        Way { from: m, ..self }
+    }
+}
+
 // What the links of n points say: that of (i, j) stands at place i×n + j.
 #[derive(Clone, Copy)]
 pub(crate) struct Ways<'a> {
@@ -44,8 +60,8 @@ impl Ways<'_> {
             }
             Link::Over(point) => {
                 let m = point as usize;
-                let first = self.unfold(Way { to: m, ..way }, out);
-                let second = self.unfold(Way { from: m, ..way }, &mut out[first..]);
+                let first = self.unfold(way.up_to(m), out);
+                let second = self.unfold(way.on_from(m), &mut out[first..]);
                 first + second
             }
         }

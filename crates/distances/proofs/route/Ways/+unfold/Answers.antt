@@ -1,6 +1,7 @@
 -- One edge is written, or the first half and behind it the second. Assumes nothing.
 use Rattle.std.proofs.Common.{◌-◌, length, take, drop, sym, refl, arith}
 use Rattle.distances.specs.Matrix.{linked}
+use Rattle.distances.specs.Unfolding.{Unfolded}
 use Rattle.distances.proofs.Unfoldings.{edge_fits, unfolded_edge, first_half, second_half, whole_within, unfolded_halves, first_falls, second_falls, behind_length}
 use Rattle.distances.proofs.route.Ways.+unfold.Goals as goal
 
@@ -25,7 +26,8 @@ unfold-first-requires t c =
     let i = c.args.way.from in
     let j = c.args.way.to in
     let links = linked n c.args.self.now.links.now in
-    let over = sym c.in-Over.ensures in (
+    let over = sym c.in-Over.ensures in
+    rw c.up_to.ensures (
       omega (arith, first_falls n links i j _ c.requires c.in-Over.point over),
       first_half n links i j _ c.requires c.in-Over.point over,
     )
@@ -37,10 +39,12 @@ unfold-second-requires t c =
     let j = c.args.way.to in
     let links = linked n c.args.self.now.links.now in
     let half = c.unfold-first.new.out in
-    let over = sym c.in-Over.ensures in (
+    let over = sym c.in-Over.ensures in
+    let first : Unfolded links i c.in-Over.point c.args.out.now half c.unfold-first.result = rw c.up_to.ensures at c.unfold-first.ensures.unfolded in
+    rw c.on_from.ensures (
       omega (arith, second_falls n links i j _ c.requires c.in-Over.point over),
       second_half n links i j (length c.args.out.now) c.requires c.in-Over.point over c.args.out.now half c.unfold-first.result
-          c.unfold-first.ensures.unfolded _ (behind_length half c.unfold-first.result _ (omega arith)),
+          first _ (behind_length half c.unfold-first.result _ (omega arith)),
     )
 
 pub returns-in-Over : goal.returns-in-Over
@@ -48,13 +52,14 @@ returns-in-Over t c =
     let n = c.args.self.now.n in
     let i = c.args.way.from in
     let j = c.args.way.to in
+    let m = c.in-Over.point in
     let links = linked n c.args.self.now.links.now in
     let half = c.unfold-first.new.out in
     let behind = take (length half - c.unfold-first.result) (drop c.unfold-first.result half) in
     let over = sym c.in-Over.ensures in
-    let first = c.unfold-first.ensures.unfolded in
-    let second = c.unfold-second.ensures.unfolded in
+    let first : Unfolded links i m c.args.out.now half c.unfold-first.result = rw c.up_to.ensures at c.unfold-first.ensures.unfolded in
+    let second : Unfolded links m j behind c.unfold-second.new.out c.unfold-second.result = rw c.on_from.ensures at c.unfold-second.ensures.unfolded in
     record {
-      within = whole_within n links i j (length c.args.out.now) c.requires c.in-Over.point over c.args.out.now half c.unfold-first.result first behind c.unfold-second.new.out c.unfold-second.result second;
-      unfolded = unfolded_halves n links i j (length c.args.out.now) c.requires c.in-Over.point over c.args.out.now half c.unfold-first.result first behind c.unfold-second.new.out c.unfold-second.result second refl;
+      within = whole_within n links i j (length c.args.out.now) c.requires m over c.args.out.now half c.unfold-first.result first behind c.unfold-second.new.out c.unfold-second.result second;
+      unfolded = unfolded_halves n links i j (length c.args.out.now) c.requires m over c.args.out.now half c.unfold-first.result first behind c.unfold-second.new.out c.unfold-second.result second refl;
     }
