@@ -9,8 +9,9 @@ use Rattle.networks.specs.Network.{Network}
 use Rattle.networks.specs.Legal.{Legal}
 use Rattle.networks.specs.Refusal.{Refusal}
 use Rattle.networks.specs.Faults.{refusal_in}
-use Rattle.distances.specs.Table.{Middles}
-use Rattle.distances.specs.Matrix.{numbers, Rest}
+use Rattle.distances.specs.declared.link.Link.{Link}
+use Rattle.distances.specs.Table.{Links}
+use Rattle.distances.specs.Matrix.{linked, Rest}
 use Rattle.distances.specs.Memory.{blanked}
 use Rattle.distances.specs.Unfolding.{CycleWritten}
 use Rattle.distances.specs.Closing.{CannotClose}
@@ -27,23 +28,23 @@ blanked_after n old mid new rest is =
     (ap (λ (k : ℕ). drop k mid) count ∙ rest ∙ ap (λ (k : ℕ). drop k old) (sym count))
 
 module _ {S : Type 0} (K : Kind S) (N : Network S) (matrix : List (Option S)) (cycle : List ℕ) where
-  pub contradicted : (n : ℕ) (mid codes : Middles) (first last r : ℕ) (closed after : List (Option S)) (written : List ℕ) → Legal K N → n ≡ N.points
-      → CannotClose K N mid codes first last → Rest N.points matrix closed → CycleWritten mid codes first last cycle written r
+  pub contradicted : (n : ℕ) (links : Links) (first last code r : ℕ) (closed after : List (Option S)) (written : List ℕ) → Legal K N → n ≡ N.points
+      → CannotClose K N links first last code → Rest N.points matrix closed → CycleWritten links first last code cycle written r
       → after ≡ blanked n closed → Contradicted K N matrix cycle r after written
-  contradicted n mid codes first last r closed after written legal e never rest c blank = record {
+  contradicted n links first last code r closed after written legal e never rest c blank = record {
     legal = legal;
     no_plan = never.no_plan;
-    codes = c.edges ++ codes last first ∷ [];
-    counted = omega (arith, c.counted, length-append c.edges (codes last first ∷ []));
+    codes = c.edges ++ code ∷ [];
+    counted = omega (arith, c.counted, length-append c.edges (code ∷ []));
     negative = never.closing.negative c.edges c.points c.way;
     written = c.written;
     blank = blanked_after N.points matrix closed after rest (subst (λ (m : ℕ). after ≡ blanked m closed) e blank);
   }
 
   -- in terms of the number n that the code has
-  pub with_number : (n : ℕ) (middles codes : List ℕ) (first last : ℕ) → n ≡ N.points
-      → CannotClose K N (numbers N.points middles) (numbers N.points codes) first last → CannotClose K N (numbers n middles) (numbers n codes) first last
-  with_number n middles codes first last e = subst (λ (m : ℕ). CannotClose K N (numbers m middles) (numbers m codes) first last) (sym e)
+  pub with_number : (n : ℕ) (links : List Link) (first last code : ℕ) → n ≡ N.points
+      → CannotClose K N (linked N.points links) first last code → CannotClose K N (linked n links) first last code
+  with_number n links first last code e = subst (λ (m : ℕ). CannotClose K N (linked m links) first last code) (sym e)
 
   -- ---- by what the checks say
   module _ (x : Option Refusal) (r : Result (Unit {0}) Fault) (matrix' : List (Option S)) (cycle' : List ℕ) where

@@ -14,14 +14,15 @@ use Rattle.networks.specs.Legal.{Legal}
 use Rattle.distances.specs.Limits.{largest_total}
 use Rattle.distances.specs.Graph.{Edge, NegativeCycle}
 use Rattle.distances.specs.Distance.{Least, LeastTotals}
-use Rattle.distances.specs.Table.{Table, Middles, AtMost, stage, stage_middles, closes, Done}
+use Rattle.distances.specs.declared.link.Link.TheVariants.{Direct}
+use Rattle.distances.specs.Table.{Table, Links, AtMost, stage, stage_links, closes, Done}
 use Rattle.distances.specs.Edges.{Coded, least_edge}
 use Rattle.distances.specs.Begun.{begun}
 use Rattle.distances.specs.DateRule.{ByDateRule}
 use Rattle.distances.specs.Decided.{DatedDistances, Decided}
 use Rattle.distances.proofs.Chains.{Sound, chain_size, route_few}
 use Rattle.distances.proofs.Ways.{a_way}
-use Rattle.distances.proofs.Stages.{Stands, stands_begun, stands_next, closing_edge, stands_done, stands_least}
+use Rattle.distances.proofs.Stages.{Stands, stands_begun, stands_next, closing_code, closing_edge, stands_done, stands_least}
 use Rattle.distances.proofs.Plans.{legal_sound, KeepsEdges, keeping_plan, plan_near, plan_keeps, chain_kept, cycle_no_plan}
 use Rattle.distances.proofs.Dating.{rule_keeps, rule_exists, first_zero}
 use Rattle.distances.proofs.OneDating.{one_dates}
@@ -53,8 +54,8 @@ module _ {S : Type 0} {K : Kind S} (laws : Laws S K) where
     pub sound : Sound K N
     sound = legal_sound laws N legal
 
-    abbrev codes : Middles
-    codes i j = code (least_edge K N (length N.conditions) i j)
+    abbrev first_links : Links
+    first_links i j = Direct (code (least_edge K N (length N.conditions) i j))
 
     -- the limits fit: a route's total, and sums of some
     pub wide : N.points * largest_end ≤ largest_total
@@ -89,17 +90,18 @@ module _ {S : Type 0} {K : Kind S} (laws : Laws S K) where
       some_dates = rule_exists laws d N.points largest_total done dates_room
 
     -- ---- the stages run through
-    run : (f k : ℕ) → k + f ≡ N.points → (d : Table S) (mid : Middles) → Stands K N codes largest_total d mid k
-        → ((cs : List ℕ) × NegativeCycle K N cs) ⊎ ((e : Table S) × (m : Middles) × Stands K N codes largest_total e m N.points)
-    run zero k e d mid s = inr (d, mid, subst (λ (o : ℕ). Stands K N codes largest_total d mid o) (let z : k ≡ N.points = omega arith in z) s)
-    run (suc f) k e d mid s = elim (first_below (closes K d mid k) k) [
+    run : (f k : ℕ) → k + f ≡ N.points → (d : Table S) (links : Links) → Stands K N largest_total d links k
+        → ((cs : List ℕ) × NegativeCycle K N cs) ⊎ ((e : Table S) × (m : Links) × Stands K N largest_total e m N.points)
+    run zero k e d links s = inr (d, links, subst (λ (o : ℕ). Stands K N largest_total d links o) (let z : k ≡ N.points = omega arith in z) s)
+    run (suc f) k e d links s = elim (first_below (closes K d links k) k) [
       | inl (i, li, found) ↦ (
-          let c = closing_edge laws N sound codes largest_total wide room d mid k s (omega arith) i li found in
-          let (cs, ps, x) = a_way N.points mid codes c.falls k i in
-          inl (cs ++ codes i k ∷ [], c.negative cs ps x))
-      | inr none ↦ run f (k + 1) (omega arith) (stage K d k) (stage_middles K d mid k)
-          (stands_next laws N sound codes largest_total wide room d mid k s (omega arith) none
-          (stage K d k) (stage_middles K d mid k) (λ p q. refl) (λ p q. refl))
+          let (code, back) = closing_code laws N sound largest_total wide room d links k s (omega arith) i li found in
+          let c = closing_edge laws N sound largest_total wide room d links k s (omega arith) i li found code back in
+          let (cs, ps, x) = a_way N.points links c.falls k i in
+          inl (cs ++ code ∷ [], c.negative cs ps x))
+      | inr none ↦ run f (k + 1) (omega arith) (stage K d k) (stage_links K d links k)
+          (stands_next laws N sound largest_total wide room d links k s (omega arith) none
+          (stage K d k) (stage_links K d links k) (λ p q. refl) (λ p q. refl))
     ]
 
     -- an entry is the total of a route, and plans keep routes
@@ -112,11 +114,11 @@ module _ {S : Type 0} {K : Kind S} (laws : Laws S K) where
         let zi = plan_near laws N legal plan p i in
         (date K plan i ⊕⟨ K ⟩ a, sum_some laws (date K plan i) a (omega arith), chain_kept laws N legal (date K plan) p.in_reach (plan_keeps laws N legal plan p) lj (omega arith) x)
 
-    dated : (d : Table S) (mid : Middles) → Stands K N codes largest_total d mid N.points
+    dated : (d : Table S) (links : Links) → Stands K N largest_total d links N.points
         → (entry : Table S) × (dates : List S) × DatedDistances K N entry dates
-    dated d mid s =
-        let done = stands_done laws N sound codes largest_total wide room d mid s in
-        let least = stands_least laws N sound codes largest_total wide room d mid s in
+    dated d links s =
+        let done = stands_done laws N sound largest_total wide room d links s in
+        let least = stands_least laws N sound largest_total wide room d links s in
         let (dates, rule) = some_dates d done s.below in (
           d,
           dates,
@@ -130,15 +132,15 @@ module _ {S : Type 0} {K : Kind S} (laws : Laws S K) where
           },
         )
 
-    ran : ((cs : List ℕ) × NegativeCycle K N cs) ⊎ ((d : Table S) × (mid : Middles) × Stands K N codes largest_total d mid N.points)
+    ran : ((cs : List ℕ) × NegativeCycle K N cs) ⊎ ((d : Table S) × (links : Links) × Stands K N largest_total d links N.points)
     ran =
-        run N.points 0 (omega arith) (begun K N) (λ i j. 0)
-        (stands_begun laws N sound codes largest_total wide room (λ i j c a e. ap code e) (λ i j. 0) (λ i j. refl) legal.some_point)
+        run N.points 0 (omega arith) (begun K N) first_links
+        (stands_begun laws N sound largest_total wide room first_links (λ i j c a e. ap (λ x. Direct (code x)) e) (λ i j. refl) legal.some_point)
 
     pub decided : Decided K N
     decided = elim ran [
       | inl (cs, c) ↦ inl (cs, c, cycle_no_plan laws N legal cs c)
-      | inr (d, mid, s) ↦ inr (dated d mid s)
+      | inr (d, links, s) ↦ inr (dated d links s)
     ]
 
     -- where the hulls have a plan, the table of least totals
@@ -146,5 +148,5 @@ module _ {S : Type 0} {K : Kind S} (laws : Laws S K) where
         → (d : Table S) × Done K N.points largest_total d × LeastTotals K N d × ((c i j : ℕ) (a : S) → Edge K N c i j a → AtMost K (d i j) a)
     done_table plan = elim ran [
       | inl (cs, c) ↦ absurd (cycle_no_plan laws N legal cs c plan)
-      | inr (d, mid, s) ↦ (d, stands_done laws N sound codes largest_total wide room d mid s, stands_least laws N sound codes largest_total wide room d mid s, s.below)
+      | inr (d, links, s) ↦ (d, stands_done laws N sound largest_total wide room d links s, stands_least laws N sound largest_total wide room d links s, s.below)
     ]

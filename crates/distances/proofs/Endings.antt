@@ -11,7 +11,8 @@ use Rattle.distances.specs.Limits.{largest_total}
 use Rattle.distances.specs.Graph.{Edge}
 use Rattle.distances.specs.Distance.{entry_of, Least, LeastTotals}
 use Rattle.distances.specs.DateRule.{ByDateRule}
-use Rattle.distances.specs.Table.{Table, Middles, AtMost, stage, stage_middles, closes, Done}
+use Rattle.distances.specs.declared.link.Link.TheVariants.{Direct}
+use Rattle.distances.specs.Table.{Table, Links, is_direct, AtMost, stage, stage_links, closes, Done}
 use Rattle.distances.specs.Edges.{least_edge}
 use Rattle.distances.specs.Begun.{begun}
 use Rattle.distances.specs.Matrix.{table}
@@ -23,44 +24,45 @@ use Rattle.distances.proofs.Stages.{Stands, stands_begun, stands_next, closing_e
 use Rattle.distances.proofs.Plans.{cycle_no_plan}
 use Rattle.distances.proofs.Deciding.{sound, wide, room, ruled_plan, some_dates, one_least, done_table}
 
-module _ {S : Type 0} {K : Kind S} (laws : Laws S K) (N : Network S) (legal : Legal K N) (codes : Middles) where
-  abbrev pub Standing : Table S → Middles → ℕ → Type 0
-  Standing d mid k = Stands K N codes largest_total d mid k
+module _ {S : Type 0} {K : Kind S} (laws : Laws S K) (N : Network S) (legal : Legal K N) where
+  abbrev pub Standing : Table S → Links → ℕ → Type 0
+  Standing d links k = Stands K N largest_total d links k
 
-  pub standing_begins : (d : Table S) (mid : Middles) → ((i j : ℕ) → d i j ≡ begun K N i j)
-      → ((i j c : ℕ) (a : S) → least_edge K N (length N.conditions) i j ≡ Some (a, c) → codes i j ≡ c) → ((i j : ℕ) → mid i j ≡ 0) → Standing d mid 0
-  standing_begins d mid filled coded straight =
+  pub standing_begins : (d : Table S) (links : Links) → ((i j : ℕ) → d i j ≡ begun K N i j)
+      → ((i j c : ℕ) (a : S) → least_edge K N (length N.conditions) i j ≡ Some (a, c) → links i j ≡ Direct c)
+      → ((i j : ℕ) → is_direct (links i j) ≡ true) → Standing d links 0
+  standing_begins d links filled coded straight =
       let same : d ≡ begun K N = fun_ext (λ i. fun_ext (λ j. filled i j)) in
-      subst (λ (t : Table S). Standing t mid 0) (sym same)
-      (stands_begun laws N (sound laws N legal) codes largest_total (wide laws N legal) (room laws N legal) coded mid straight legal.some_point)
+      subst (λ (t : Table S). Standing t links 0) (sym same)
+      (stands_begun laws N (sound laws N legal) largest_total (wide laws N legal) (room laws N legal) links coded straight legal.some_point)
 
-  module _ (d : Table S) (mid : Middles) (k : ℕ) (s : Standing d mid k) (below : k < N.points) where
-    pub standing_steps : (e : Table S) (m : Middles) → ((i : ℕ) → i < k → closes K d mid k i ≡ false)
-        → ((p q : ℕ) → e p q ≡ stage K d k p q) → ((p q : ℕ) → m p q ≡ stage_middles K d mid k p q) → Standing e m (k + 1)
-    standing_steps e m none = stands_next laws N (sound laws N legal) codes largest_total (wide laws N legal) (room laws N legal) d mid k s below none e m
+  module _ (d : Table S) (links : Links) (k : ℕ) (s : Standing d links k) (below : k < N.points) where
+    pub standing_steps : (e : Table S) (m : Links) → ((i : ℕ) → i < k → closes K d links k i ≡ false)
+        → ((p q : ℕ) → e p q ≡ stage K d k p q) → ((p q : ℕ) → m p q ≡ stage_links K d links k p q) → Standing e m (k + 1)
+    standing_steps e m none = stands_next laws N (sound laws N legal) largest_total (wide laws N legal) (room laws N legal) d links k s below none e m
 
-    pub standing_refuses : (i : ℕ) → i < k → closes K d mid k i ≡ true → CannotClose K N mid codes k i
-    standing_refuses i li found =
-        let c = closing_edge laws N (sound laws N legal) codes largest_total (wide laws N legal) (room laws N legal) d mid k s below i li found in
-        let (cs, ps, x) = a_way N.points mid codes c.falls k i in
+    pub standing_refuses : (i : ℕ) → i < k → closes K d links k i ≡ true → (code : ℕ) → links i k ≡ Direct code → CannotClose K N links k i code
+    standing_refuses i li found code back =
+        let c = closing_edge laws N (sound laws N legal) largest_total (wide laws N legal) (room laws N legal) d links k s below i li found code back in
+        let (cs, ps, x) = a_way N.points links c.falls k i in
         record { first_there = below; last_there = omega arith; closing = c; no_plan = cycle_no_plan laws N legal _ (c.negative cs ps x) }
 
-  closed_matrix : (matrix : List (Option S)) (mid : Middles) → Standing (table N.points matrix) mid N.points → Closes K N matrix
-  closed_matrix matrix mid s =
+  closed_matrix : (matrix : List (Option S)) (links : Links) → Standing (table N.points matrix) links N.points → Closes K N matrix
+  closed_matrix matrix links s =
       let d = table N.points matrix in
-      let done = stands_done laws N (sound laws N legal) codes largest_total (wide laws N legal) (room laws N legal) d mid s in
+      let done = stands_done laws N (sound laws N legal) largest_total (wide laws N legal) (room laws N legal) d links s in
       let (dates, rule) = some_dates laws N legal d done s.below in
       record {
         least = λ i j li lj. subst (λ (x : Option S). Least K N i j x) (square_inside None N.points matrix i j li lj)
-            (stands_least laws N (sound laws N legal) codes largest_total (wide laws N legal) (room laws N legal) d mid s i j li lj);
+            (stands_least laws N (sound laws N legal) largest_total (wide laws N legal) (room laws N legal) d links s i j li lj);
         plan = (dates, ruled_plan laws N legal d done s.below dates rule);
       }
 
   -- of a matrix that is read with n rows, after k stages, where both are the number of points
-  pub standing_ends : (n k : ℕ) (matrix : List (Option S)) (mid : Middles) → n ≡ N.points → k ≡ N.points → Standing (table n matrix) mid k → Closes K N matrix
-  standing_ends n k matrix mid e f s =
-      closed_matrix matrix mid
-      (subst (λ (m : ℕ). Standing (table m matrix) mid N.points) e (subst (λ (m : ℕ). Standing (table n matrix) mid m) f s))
+  pub standing_ends : (n k : ℕ) (matrix : List (Option S)) (links : Links) → n ≡ N.points → k ≡ N.points → Standing (table n matrix) links k → Closes K N matrix
+  standing_ends n k matrix links e f s =
+      closed_matrix matrix links
+      (subst (λ (m : ℕ). Standing (table m matrix) links N.points) e (subst (λ (m : ℕ). Standing (table n matrix) links m) f s))
 
 -- ---- dates of a closed matrix
 module _ {S : Type 0} {K : Kind S} (laws : Laws S K) (N : Network S) (legal : Legal K N) (matrix : List (Option S)) (closes-it : Closes K N matrix) where

@@ -1,3 +1,4 @@
+pub mod Links
 pub mod Tables
 pub mod Distincts
 pub mod Pieces
@@ -14,5 +15,6 @@ pub mod Matrices
 mod Relaxing
 mod Filling
 mod Unfoldings
+mod Searching
 pub mod Endings
 mod Contradictions

@@ -1,8 +1,9 @@
 -- Places in a matrix of n rows, writes to them, and the steps of the loops over its rows. Assumes nothing.
-use Rattle.std.proofs.Common.{◌≡◌, ℕ, ◌+◌, ◌*◌, ◌/◌, ◌%◌, ◌<◌, ◌≤◌, Bool, true, false, cond, ltb, ◌≢◌, ◌⊎◌, List, [], ◌∷◌, ◌++◌, length, get_or, drop, set, replicate, Some, None, Option, sym, refl, ap, ◌∙◌, subst, inl, inr, append_assoc, arith, get_or-set_other, get_or-set_same, drop-set-lt, le-ltb, lt-ltb}
+use Rattle.std.proofs.Common.{◌≡◌, ℕ, ◌+◌, ◌*◌, ◌/◌, ◌%◌, ◌<◌, ◌≤◌, Bool, true, false, cond, ltb, ◌≢◌, ◌⊎◌, List, ◌++◌, length, get_or, take, drop, set, replicate, Some, None, Option, sym, refl, ap, ◌∙◌, subst, inl, inr, arith, get_or-set_other, get_or-set_same, drop-set-lt, le-ltb, lt-ltb}
+use lib.Seq.{length-take-le}
 use native.Mathlib.Decide.{dec_lt, ℕ_discrete}
 use Rattle.std.proofs.lemmas.Nat.{mul-add-lt, div-mul-add, mod-mul-add}
-use Rattle.std.proofs.lemmas.List.{length-replicate, get_or-replicate, get_or_append_left, drop_at, drop_more, set_at, replicate_more}
+use Rattle.std.proofs.lemmas.List.{length-replicate, get_or-replicate, get_or_append_left, drop_at}
 use Rattle.distances.specs.Matrix.{square, table, Rest, RowUpto, RowsUpto}
 use Rattle.distances.specs.Memory.{put_first}
 
@@ -54,16 +55,10 @@ module _ {A : Type 0} (z : A) (n : ℕ) where
 
   -- ---- memory with n×n equal cells put first
   module _ (v : A) (old : List A) where
-    -- one more cell of them, and all of them
-    pub blank_more : (i : ℕ) → i < length old → set (replicate i v ++ drop i old) i v ≡ replicate (i + 1) v ++ drop (i + 1) old
-    blank_more i h =
-        ap (λ (t : List A). set (replicate i v ++ t) i v) (drop_more old i v h)
-        ∙ set_at (replicate i v) (get_or old i v) (drop (i + 1) old) v i (length-replicate i v)
-        ∙ sym (append_assoc (replicate i v) (v ∷ []) (drop (i + 1) old))
-        ∙ ap (λ (t : List A). t ++ drop (i + 1) old) (replicate_more i v)
-
-    pub blank_all : {l : List A} → l ≡ replicate (n * n) v ++ drop (n * n) old → l ≡ put_first (replicate (n * n) v) old
-    blank_all e = rw (length-replicate (n * n) v) e
+    -- all of them, by a fill of the first part
+    pub blank_all : {front : List A} → n * n ≤ length old → front ≡ replicate (length (take (n * n) old)) v
+        → front ++ drop (n * n) old ≡ put_first (replicate (n * n) v) old
+    blank_all room e = rw (length-replicate (n * n) v, e, length-take-le (n * n) old room) refl
 
     pub blank_square : (i j : ℕ) → square v n (put_first (replicate (n * n) v) old) i j ≡ v
     blank_square i j = go (dec_lt i n) (dec_lt j n)

@@ -1,5 +1,5 @@
 -- What stands behind each entry of a table with middle points: an edge, or two halves. A stage keeps it. Assumes nothing.
---     Piece K N codes d mid k i j a     the entry a of (i, j) is an edge's weight, or the sum of its halves over a point below k
+--     Piece K N d links k i j a     the entry a of (i, j) is an edge's weight, or the sum of its halves over a point below k
 use Rattle.std.proofs.Common.{◌≡◌, ℕ, zero, suc, ◌+◌, ◌*◌, ◌<◌, ◌≤◌, Bool, true, false, cond, eqb, Some, None, Option, sym, refl, ap, ◌∙◌, subst, inl, inr, arith}
 use Rattle.std.proofs.lemmas.Bool.{both_ways, cases_Bool, eq-eqb}
 use Rattle.spans.specs.Kind.{Kind, Laws, reach, ◌<⟨◌⟩◌, ◌≤⟨◌⟩◌}
@@ -8,12 +8,14 @@ use Rattle.spans.specs.Order.{le_trans}
 use Rattle.spans.proofs.Group.{sum_size, comm, assoc, lt_plus, le_plus_left}
 use Rattle.networks.specs.Network.{Network}
 use Rattle.distances.specs.Graph.{Edge}
-use Rattle.distances.specs.Table.{Table, Middles, joined, beats, AtMost, shortens, stage, stage_middles, closes, Small}
+use Rattle.distances.specs.declared.link.Link.TheVariants.{Direct, Over}
+use Rattle.distances.specs.Table.{Table, Links, is_direct, rank, joined, beats, AtMost, shortens, stage, stage_links, closes, Small}
+use Rattle.distances.proofs.Links.{not_over, same_code, same_point}
 use Rattle.distances.proofs.Tables.{ClosedBelow, Fair, Staged, none_some, is_there, joined_parts, joined_some, to_calm, from_calm, to_same, from_same, kept}
 
-module _ {S : Type 0} (K : Kind S) (N : Network S) (codes : Middles) where
+module _ {S : Type 0} (K : Kind S) (N : Network S) where
   -- the two halves over m
-  pub record Split (d : Table S) (mid : Middles) (k i j : ℕ) (a : S) (m : ℕ) : Type 0 where
+  pub record Split (d : Table S) (links : Links) (k i j : ℕ) (a : S) (m : ℕ) : Type 0 where
     pub low : m < k
     pub off_first : i ≡ m → ⊥
     pub off_last : m ≡ j → ⊥
@@ -22,24 +24,23 @@ module _ {S : Type 0} (K : Kind S) (N : Network S) (codes : Middles) where
     pub first : d i m ≡ Some to
     pub second : d m j ≡ Some from
     pub adds : a ≡ to ⊕⟨ K ⟩ from
-    pub first_low : mid i m ≤ m
-    pub second_low : mid m j ≤ m
+    pub first_low : rank (links i m) ≤ m
+    pub second_low : rank (links m j) ≤ m
 
-  pub data Piece (d : Table S) (mid : Middles) (k i j : ℕ) (a : S) : Type 0 where
-    direct : mid i j ≡ 0 → Edge K N (codes i j) i j a → Piece d mid k i j a
-    over : (m : ℕ) → mid i j ≡ suc m → Split d mid k i j a m → Piece d mid k i j a
+  pub data Piece (d : Table S) (links : Links) (k i j : ℕ) (a : S) : Type 0 where
+    direct : (c : ℕ) → links i j ≡ Direct c → Edge K N c i j a → Piece d links k i j a
+    over : (m : ℕ) → links i j ≡ Over m → Split d links k i j a m → Piece d links k i j a
 
-  abbrev pub Pieced : Table S → Middles → ℕ → Type 0
-  Pieced d mid k = (i j : ℕ) (a : S) → (i ≡ j → ⊥) → d i j ≡ Some a → Piece d mid k i j a
+  abbrev pub Pieced : Table S → Links → ℕ → Type 0
+  Pieced d links k = (i j : ℕ) (a : S) → (i ≡ j → ⊥) → d i j ≡ Some a → Piece d links k i j a
 
-  pub one_edge : (d : Table S) (mid : Middles) (k i j : ℕ) (a : S) → mid i j ≡ 0 → Piece d mid k i j a → Edge K N (codes i j) i j a
-  one_edge d mid k i j a e (direct p q) = q
-  one_edge d mid k i j a e (over m p s) = absurd (omega arith)
+  pub one_edge : (d : Table S) (links : Links) (k i j : ℕ) (a : S) (c : ℕ) → links i j ≡ Direct c → Piece d links k i j a → Edge K N c i j a
+  one_edge d links k i j a c e (direct o p q) = subst (λ (x : ℕ). Edge K N x i j a) (same_code p e) q
+  one_edge d links k i j a c e (over m p s) = absurd (not_over e p)
 
-  pub split : (d : Table S) (mid : Middles) (k i j : ℕ) (a : S) (m : ℕ) → mid i j ≡ suc m → Piece d mid k i j a → Split d mid k i j a m
-  split d mid k i j a m e (direct p q) = absurd (omega arith)
-  split d mid k i j a m e (over m₀ p s) =
-      let same : m₀ ≡ m = omega arith in subst (λ (o : ℕ). Split d mid k i j a o) same s
+  pub split : (d : Table S) (links : Links) (k i j : ℕ) (a : S) (m : ℕ) → links i j ≡ Over m → Piece d links k i j a → Split d links k i j a m
+  split d links k i j a m e (direct c p q) = absurd (not_over p e)
+  split d links k i j a m e (over m₀ p s) = subst (λ (o : ℕ). Split d links k i j a o) (same_point p e) s
 
 module _ {S : Type 0} {K : Kind S} (laws : Laws S K) where
   -- ---- an entry that the way over k shortens
@@ -112,16 +113,16 @@ module _ {S : Type 0} {K : Kind S} (laws : Laws S K) where
               not_shorter (e ⊕⟨ K ⟩ (f ⊕⟨ K ⟩ g)) (kept laws d k b s i m j off low e (f ⊕⟨ K ⟩ g) (inl left) (inr (f, g, p, q, refl)))
               (rw (comm laws e (f ⊕⟨ K ⟩ g) (omega arith), comm laws e t (omega arith)) (lt_plus laws (f ⊕⟨ K ⟩ g) t e (omega arith) (omega arith) (less t right)))
 
-    module _ (N : Network S) (codes mid : Middles) (low : (i j : ℕ) → mid i j ≤ k) (pieced : Pieced K N codes d mid k) where
-      pub middles_low : (i j : ℕ) → stage_middles K d mid k i j ≤ suc k
-      middles_low i j = by_test (shortens K d k i j)
+    module _ (N : Network S) (links : Links) (low : (i j : ℕ) → rank (links i j) ≤ k) (pieced : Pieced K N d links k) where
+      pub links_low : (i j : ℕ) → rank (stage_links K d links k i j) ≤ suc k
+      links_low i j = by_test (shortens K d k i j)
         where
-          by_test : (t : Bool) → cond t (suc k) (mid i j) ≤ suc k
+          by_test : (t : Bool) → rank (cond t (Over k) (links i j)) ≤ suc k
           by_test true = omega arith
           by_test false = omega (arith, low i j)
 
       new_piece : (i j : ℕ) (a : S) → shortens K d k i j ≡ true → stage K d k i j ≡ Some a
-          → Piece K N codes (stage K d k) (stage_middles K d mid k) (suc k) i j a
+          → Piece K N (stage K d k) (stage_links K d links k) (suc k) i j a
       new_piece i j a h e =
           let (f, g, p, q, adds) = joined_parts laws (d i k) (d k j) a (rw h at e) in
           let front = to_calm laws d k b s.room s.small s.here i in
@@ -139,9 +140,9 @@ module _ {S : Type 0} {K : Kind S} (laws : Laws S K) where
             second_low = rw rear (low k j);
           })
 
-      old_piece : (i j : ℕ) (a : S) → (i ≡ j → ⊥) → shortens K d k i j ≡ false → d i j ≡ Some a → Piece K N codes d mid k i j a
-          → Piece K N codes (stage K d k) (stage_middles K d mid k) (suc k) i j a
-      old_piece i j a off h e (direct p q) = direct (rw h p) q
+      old_piece : (i j : ℕ) (a : S) → (i ≡ j → ⊥) → shortens K d k i j ≡ false → d i j ≡ Some a → Piece K N d links k i j a
+          → Piece K N (stage K d k) (stage_links K d links k) (suc k) i j a
+      old_piece i j a off h e (direct c p q) = direct c (rw h p) q
       old_piece i j a off h e (over m p t) =
           let cl = calm_left i m j off t.low a t.to t.from h e t.first t.second t.adds in
           let cr = calm_right i m j off t.low a t.to t.from h e t.first t.second t.adds in
@@ -158,29 +159,29 @@ module _ {S : Type 0} {K : Kind S} (laws : Laws S K) where
             second_low = rw cr t.second_low;
           })
 
-      pub stage_pieced : Pieced K N codes (stage K d k) (stage_middles K d mid k) (suc k)
+      pub stage_pieced : Pieced K N (stage K d k) (stage_links K d links k) (suc k)
       stage_pieced i j a off e = elim (cases_Bool (shortens K d k i j)) [
         | inl h ↦ new_piece i j a h e
         | inr h ↦ (let was : d i j ≡ Some a = rw h at e in old_piece i j a off h was (pieced i j a off was))
       ]
 
-  -- ---- to look at the direct edges into k suffices: induction on the middle of (i, k)
-  module _ (N : Network S) (codes : Middles) (d : Table S) (mid : Middles) (k b : ℕ) (room : 16 * b ≤ reach) (small : Small K d b)
-      (closed : ClosedBelow K d k) (pieced : Pieced K N codes d mid k) (none : (i : ℕ) → i < k → closes K d mid k i ≡ false) where
+  -- ---- to look at the direct edges into k suffices: induction on the rank of (i, k)
+  module _ (N : Network S) (d : Table S) (links : Links) (k b : ℕ) (room : 16 * b ≤ reach) (small : Small K d b)
+      (closed : ClosedBelow K d k) (pieced : Pieced K N d links k) (none : (i : ℕ) → i < k → closes K d links k i ≡ false) where
     abbrev FairTo : ℕ → Type 0
-    FairTo f = (i : ℕ) (a c : S) → i < k → mid i k ≤ f → d i k ≡ Some a → d k i ≡ Some c → K.zero ≤⟨ K ⟩ (a ⊕⟨ K ⟩ c)
+    FairTo f = (i : ℕ) (a c : S) → i < k → rank (links i k) ≤ f → d i k ≡ Some a → d k i ≡ Some c → K.zero ≤⟨ K ⟩ (a ⊕⟨ K ⟩ c)
 
-    fair_edge : (i : ℕ) (a c : S) → i < k → mid i k ≡ 0 → d i k ≡ Some a → d k i ≡ Some c → K.zero ≤⟨ K ⟩ (a ⊕⟨ K ⟩ c)
+    fair_edge : (i : ℕ) (a c : S) → i < k → is_direct (links i k) ≡ true → d i k ≡ Some a → d k i ≡ Some c → K.zero ≤⟨ K ⟩ (a ⊕⟨ K ⟩ c)
     fair_edge i a c l e x y =
-        let t : eqb (mid i k) 0 ≡ true = eq-eqb (mid i k) 0 e in
         let z : K.size a + K.size c ≤ reach = omega (arith, small i k a x, small k i c y) in
-        rw (t, joined_some laws (d i k) (d k i) a c x y z) at (none i l)
+        rw (e, joined_some laws (d i k) (d k i) a c x y z) at (none i l)
 
-    fair_over : (f : ℕ) → FairTo f → (i : ℕ) (a c : S) → i < k → mid i k ≤ suc f → d i k ≡ Some a → d k i ≡ Some c
-        → Piece K N codes d mid k i k a → K.zero ≤⟨ K ⟩ (a ⊕⟨ K ⟩ c)
-    fair_over f ih i a c l h p q (direct x y) = fair_edge i a c l x p q
+    fair_over : (f : ℕ) → FairTo f → (i : ℕ) (a c : S) → i < k → rank (links i k) ≤ suc f → d i k ≡ Some a → d k i ≡ Some c
+        → Piece K N d links k i k a → K.zero ≤⟨ K ⟩ (a ⊕⟨ K ⟩ c)
+    fair_over f ih i a c l h p q (direct o x y) = fair_edge i a c l (ap is_direct x) p q
     fair_over f ih i a c l h p q (over m x t) =
         let less = t.low in
+        let was : rank (links i k) ≡ suc m = ap rank x in
         let firsts = t.second_low in
         let (g, z, low) = is_there laws (d k m) (c ⊕⟨ K ⟩ t.to) (closed k i m c t.to (λ e. omega arith) l q t.first) in
         let zc = small k i c q in
@@ -196,8 +197,11 @@ module _ {S : Type 0} {K : Kind S} (laws : Laws S K) where
         rw turn (le_trans laws base step)
 
     fair_upto : (f : ℕ) → FairTo f
-    fair_upto zero i a c l h p q = fair_edge i a c l (omega arith) p q
+    fair_upto zero i a c l h p q = elim (pieced i k a (λ e. omega arith) p) [
+      | direct o x y ↦ fair_edge i a c l (ap is_direct x) p q
+      | over m x t ↦ (let was : rank (links i k) ≡ suc m = ap rank x in absurd (omega arith))
+    ]
     fair_upto (suc f) i a c l h p q = fair_over f (fair_upto f) i a c l h p q (pieced i k a (λ e. omega arith) p)
 
     pub fair : Fair K d k
-    fair i a c l p q = fair_upto (mid i k) i a c l (omega arith) p q
+    fair i a c l p q = fair_upto (rank (links i k)) i a c l (omega arith) p q

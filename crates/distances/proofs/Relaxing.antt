@@ -1,12 +1,14 @@
 -- One stage of closing, entry by entry and row by row. Assumes nothing.
-use Rattle.std.proofs.Common.{◌≡◌, ℕ, suc, ◌+◌, ◌*◌, ◌<◌, ◌≤◌, Bool, true, false, cond, eqb, ◌⊎◌, List, length, get_or, set, Some, None, Option, sym, refl, ◌∙◌, subst, inl, inr, arith, eq-eqb}
+use Rattle.std.proofs.Common.{◌≡◌, ℕ, ◌+◌, ◌*◌, ◌<◌, ◌≤◌, Bool, true, false, cond, eqb, ◌⊎◌, List, length, get_or, set, Some, None, Option, sym, refl, ◌∙◌, subst, inl, inr, arith, eq-eqb}
 use native.Mathlib.Decide.{dec_lt, ℕ_discrete}
 use Rattle.std.proofs.lemmas.Bool.{ne_eqb, cond-false}
 use Rattle.spans.specs.Kind.{Kind, Laws, reach}
 use Rattle.spans.specs.Order.{le_of_eq}
 use Rattle.spans.proofs.Group.{zero_left, sum_some}
-use Rattle.distances.specs.Table.{Table, Middles, joined, beats, shortens, stage, stage_middles, Small}
-use Rattle.distances.specs.Matrix.{table, numbers, Rest, RowUpto, RowsUpto}
+use Rattle.distances.specs.declared.link.Link.{Link}
+use Rattle.distances.specs.declared.link.Link.TheVariants.{Direct, Over}
+use Rattle.distances.specs.Table.{Table, Links, joined, beats, shortens, stage, stage_links, Small}
+use Rattle.distances.specs.Matrix.{table, linked, Rest, RowUpto, RowsUpto}
 use Rattle.distances.proofs.Matrices.{square_read, Written, written_rest, row_step, rows_step, rows_pass}
 
 -- ---- where a stage changes nothing
@@ -14,8 +16,8 @@ module _ {S : Type 0} (K : Kind S) (d : Table S) (k : ℕ) where
   pub stage_keeps : (i j : ℕ) → shortens K d k i j ≡ false → stage K d k i j ≡ d i j
   stage_keeps i j e = cond-false _ _ _ e
 
-  pub middle_keeps : (m : Middles) (i j : ℕ) → shortens K d k i j ≡ false → stage_middles K d m k i j ≡ m i j
-  middle_keeps m i j e = cond-false _ _ _ e
+  pub link_keeps : (m : Links) (i j : ℕ) → shortens K d k i j ≡ false → stage_links K d m k i j ≡ m i j
+  link_keeps m i j e = cond-false _ _ _ e
 
   -- at a point and itself
   pub itself : (i j : ℕ) → i ≡ j → shortens K d k i j ≡ false
@@ -106,18 +108,18 @@ module _ {S : Type 0} (K : Kind S) (n k : ℕ) (d : Table S) where
         → RowUpto d (table n new) (stage K d k) i (j + 1)
     turn_matrix new e = row_step None n (written_matrix e) t.upto refl
 
-    pub turn_middles : (m : Middles) (middles new : List ℕ) {mark : ℕ} → n * n ≤ length middles → mark ≡ suc k
-        → RowUpto m (numbers n middles) (stage_middles K d m k) i j
-        → new ≡ cond (taken matrix at front back) (set middles at mark) middles
-        → RowUpto m (numbers n new) (stage_middles K d m k) i (j + 1)
-    turn_middles m middles new {mark} room mark-is u e = row_step 0 n w u refl
+    pub turn_links : (m : Links) (links new : List Link) {link : Link} → n * n ≤ length links → link ≡ Over k
+        → RowUpto m (linked n links) (stage_links K d m k) i j
+        → new ≡ cond (taken matrix at front back) (set links at link) links
+        → RowUpto m (linked n new) (stage_links K d m k) i (j + 1)
+    turn_links m links new {link} room link-is u e = row_step (Direct 0) n w u refl
       where
-        w : Written 0 n (shortens K d k i j) (suc k) i j middles new
+        w : Written (Direct 0) n (shortens K d k i j) (Over k) i j links new
         w = record {
           row_there = t.row_there;
           column_there = t.column_there;
           room = room;
-          is = rw (← taken_is, ← t.at_is, ← mark-is) e;
+          is = rw (← taken_is, ← t.at_is, ← link-is) e;
         }
 
 -- ---- the next row
@@ -149,11 +151,11 @@ module _ {S : Type 0} {K : Kind S} (laws : Laws S K) (n k : ℕ) (d : Table S) w
     next_matrix new r =
         rows_step t.upto r (λ q h. next_goal q) (λ q h. sym (stage_keeps K d k i q (no_way K d k i q (inr (t.outside q h)))))
 
-    pub next_middles : (m : Middles) (middles new : List ℕ) → RowsUpto m (numbers n middles) (stage_middles K d m k) i
-        → RowUpto (numbers n middles) (numbers n new) (stage_middles K (table n matrix) (numbers n middles) k) i n
-        → RowsUpto m (numbers n new) (stage_middles K d m k) (i + 1)
-    next_middles m middles new u r =
-        rows_step u r (λ q h. simp (next_here k, next_back q, next_here q, u.ahead i q (omega arith))) (λ q h. sym (middle_keeps K d k m i q (no_way K d k i q (inr (t.outside q h)))))
+    pub next_links : (m : Links) (links new : List Link) → RowsUpto m (linked n links) (stage_links K d m k) i
+        → RowUpto (linked n links) (linked n new) (stage_links K (table n matrix) (linked n links) k) i n
+        → RowsUpto m (linked n new) (stage_links K d m k) (i + 1)
+    next_links m links new u r =
+        rows_step u r (λ q h. simp (next_here k, next_back q, next_here q, u.ahead i q (omega arith))) (λ q h. sym (link_keeps K d k m i q (no_way K d k i q (inr (t.outside q h)))))
 
     -- without one
     still : table n matrix i k ≡ None → (q : ℕ) → shortens K d k i q ≡ false
@@ -162,9 +164,9 @@ module _ {S : Type 0} {K : Kind S} (laws : Laws S K) (n k : ℕ) (d : Table S) w
     pub pass_matrix : table n matrix i k ≡ None → RowsUpto d (table n matrix) (stage K d k) (i + 1)
     pass_matrix e = rows_pass t.upto (λ q. sym (stage_keeps K d k i q (still e q)))
 
-    pub pass_middles : (m : Middles) (middles : List ℕ) → table n matrix i k ≡ None → RowsUpto m (numbers n middles) (stage_middles K d m k) i
-        → RowsUpto m (numbers n middles) (stage_middles K d m k) (i + 1)
-    pass_middles m middles e u = rows_pass u (λ q. sym (middle_keeps K d k m i q (still e q)))
+    pub pass_links : (m : Links) (links : List Link) → table n matrix i k ≡ None → RowsUpto m (linked n links) (stage_links K d m k) i
+        → RowsUpto m (linked n links) (stage_links K d m k) (i + 1)
+    pass_links m links e u = rows_pass u (λ q. sym (link_keeps K d k m i q (still e q)))
 
     -- that of k itself
     same : i ≡ k → (q : ℕ) → shortens K d k i q ≡ false
@@ -173,6 +175,6 @@ module _ {S : Type 0} {K : Kind S} (laws : Laws S K) (n k : ℕ) (d : Table S) w
     pub same_matrix : i ≡ k → RowsUpto d (table n matrix) (stage K d k) (i + 1)
     same_matrix e = rows_pass t.upto (λ q. sym (stage_keeps K d k i q (same e q)))
 
-    pub same_middles : (m : Middles) (middles : List ℕ) → i ≡ k → RowsUpto m (numbers n middles) (stage_middles K d m k) i
-        → RowsUpto m (numbers n middles) (stage_middles K d m k) (i + 1)
-    same_middles m middles e u = rows_pass u (λ q. sym (middle_keeps K d k m i q (same e q)))
+    pub same_links : (m : Links) (links : List Link) → i ≡ k → RowsUpto m (linked n links) (stage_links K d m k) i
+        → RowsUpto m (linked n links) (stage_links K d m k) (i + 1)
+    same_links m links e u = rows_pass u (λ q. sym (link_keeps K d k m i q (same e q)))

@@ -1,6 +1,6 @@
 -- What stands after the stages below k: it stands at the start, each stage keeps it, and at the end it gives the least totals;
 -- or an edge closes a way below zero. Assumes nothing.
---     Stands K N codes b d mid k     entries are totals of ways over points below k, and no such way is shorter; sizes are at most b
+--     Stands K N b d links k     entries are totals of ways over points below k, and no such way is shorter; sizes are at most b
 use Rattle.std.proofs.Common.{◌≡◌, ℕ, suc, ◌+◌, ◌*◌, ◌<◌, ◌≤◌, Bool, true, false, cond, eqb, ltb, ◌⊎◌, List, [], ◌∷◌, ◌++◌, length, Some, None, Option, sym, refl, ap, ◌∙◌, subst, inl, inr, arith, length-append}
 use mathlib.Core.Path.{fun_ext}
 use native.Mathlib.Decide.{ℕ_discrete}
@@ -12,32 +12,34 @@ use Rattle.networks.specs.Limits.{largest_end}
 use Rattle.networks.specs.Network.{Network}
 use Rattle.distances.specs.Graph.{Edge, Chain, stay, go, Route, NegativeCycle}
 use Rattle.distances.specs.Distance.{Least}
-use Rattle.distances.specs.Table.{Table, Middles, joined, below_zero, AtMost, shortens, stage, stage_middles, closes, Small, Done}
+use Rattle.distances.specs.declared.link.Link.TheVariants.{Direct, Over}
+use Rattle.distances.specs.Table.{Table, Links, is_direct, rank, joined, below_zero, AtMost, shortens, stage, stage_links, closes, Small, Done}
 use Rattle.distances.specs.Unfolding.{Unfolds, edge, halves, Falls}
 use Rattle.distances.specs.Edges.{weight, least_edge}
 use Rattle.distances.specs.Begun.{begun}
 use Rattle.distances.specs.Closing.{IsClosingEdge}
+use Rattle.distances.proofs.Links.{direct_rank, direct_code}
 use Rattle.distances.proofs.Distincts.{Among, Apart, apart_last, apart_distinct}
 use Rattle.distances.proofs.Tables.{ClosedBelow, Even, Zeros, Staged, none_some, joined_parts, stage_cases, stage_old, stage_closed, stage_even, all_closed}
-use Rattle.distances.proofs.Pieces.{Split, Pieced, direct, one_edge, split, shortened, shortened_off, middles_low, stage_pieced, fair}
+use Rattle.distances.proofs.Pieces.{Split, Pieced, direct, one_edge, split, shortened, shortened_off, links_low, stage_pieced, fair}
 use Rattle.distances.proofs.Chains.{Sound, chain_size, chain_append, chain_entry, route_few}
 use Rattle.distances.proofs.Ways.{Simple, a_way, way_chain, way_few, stage_simple}
 use Rattle.distances.proofs.LeastEdges.{weight_coded, least_edge_real, least_edge_least}
 
-pub record Stands {S : Type 0} (K : Kind S) (N : Network S) (codes : Middles) (b : ℕ) (d : Table S) (mid : Middles) (k : ℕ) : Type 0 where
+pub record Stands {S : Type 0} (K : Kind S) (N : Network S) (b : ℕ) (d : Table S) (links : Links) (k : ℕ) : Type 0 where
   pub inside : (i j : ℕ) (a : S) → d i j ≡ Some a → (i < N.points) × (j < N.points)
   pub diagonal : (i : ℕ) → i < N.points → d i i ≡ Some K.zero
   pub small : Small K d b
   pub below : (c i j : ℕ) (a : S) → Edge K N c i j a → AtMost K (d i j) a
-  pub low : (i j : ℕ) → mid i j ≤ k
-  pub there : (i j m : ℕ) → mid i j ≡ suc m → (i ≡ j → ⊥) × ((a : S) × (d i j ≡ Some a))
+  pub low : (i j : ℕ) → rank (links i j) ≤ k
+  pub there : (i j m : ℕ) → links i j ≡ Over m → (i ≡ j → ⊥) × ((a : S) × (d i j ≡ Some a))
   pub closed : ClosedBelow K d k
   pub even : Even K d k
-  pub pieced : Pieced K N codes d mid k
-  pub simple : Simple K codes d mid
+  pub pieced : Pieced K N d links k
+  pub simple : Simple K d links
 
 -- the limit on totals, as a number b: a route has fewer edges than there are points, and sums of some totals are there
-module _ {S : Type 0} {K : Kind S} (laws : Laws S K) (N : Network S) (sound : Sound K N) (codes : Middles)
+module _ {S : Type 0} {K : Kind S} (laws : Laws S K) (N : Network S) (sound : Sound K N)
     (b : ℕ) (wide : N.points * largest_end ≤ b) (room : 16 * b ≤ reach) where
   -- ---- the start
   begun_either : (i j : ℕ) (a : S) → begun K N i j ≡ Some a
@@ -55,9 +57,9 @@ module _ {S : Type 0} {K : Kind S} (laws : Laws S K) (N : Network S) (sound : So
   real : (i j : ℕ) (a : S) (c : ℕ) → least_edge K N (length N.conditions) i j ≡ Some (a, c) → Edge K N c i j a
   real i j a c e = least_edge_real K N (length N.conditions) (omega arith) i j a c e
 
-  pub stands_begun : ((i j c : ℕ) (a : S) → least_edge K N (length N.conditions) i j ≡ Some (a, c) → codes i j ≡ c)
-      → (mid : Middles) → ((i j : ℕ) → mid i j ≡ 0) → 1 ≤ N.points → Stands K N codes b (begun K N) mid 0
-  stands_begun coded mid straight some = record {
+  pub stands_begun : (links : Links) → ((i j c : ℕ) (a : S) → least_edge K N (length N.conditions) i j ≡ Some (a, c) → links i j ≡ Direct c)
+      → ((i j : ℕ) → is_direct (links i j) ≡ true) → 1 ≤ N.points → Stands K N b (begun K N) links 0
+  stands_begun links coded straight some = record {
     inside = λ i j a e. elim (begun_either i j a e) [
       | inl (o, l, z) ↦ (l, omega arith)
       | inr (o, (c, x)) ↦ sound.inside c i j a (real i j a c x)
@@ -68,38 +70,38 @@ module _ {S : Type 0} {K : Kind S} (laws : Laws S K) (N : Network S) (sound : So
       | inr (o, (c, x)) ↦ omega (arith, sound.light c i j a (real i j a c x))
     ];
     below = λ c i j a e. rw (ne_eqb i j (sound.off c i j a e)) (least_edge_least laws N c i j a e);
-    low = λ i j. omega (arith, straight i j);
-    there = λ i j m e. absurd (omega (arith, straight i j));
+    low = λ i j. omega (arith, direct_rank (links i j) (straight i j));
+    there = λ i j m e. absurd (both_ways _ (ap is_direct e) (straight i j));
     closed = λ i m j a c off l x y. absurd (omega arith);
     even = λ i j a c li lj off x y. absurd (omega arith);
     pieced = λ i j a off e. elim (begun_either i j a e) [
       | inl (o, l, z) ↦ absurd (off o)
-      | inr (o, (c, x)) ↦ direct (straight i j) (subst (λ (v : ℕ). Edge K N v i j a) (sym (coded i j c a x)) (real i j a c x))
+      | inr (o, (c, x)) ↦ direct c (coded i j c a x) (real i j a c x)
     ];
     simple = λ i j a cs ps off e x. alone i j cs ps off x;
   }
     where
-      alone : (i j : ℕ) (cs ps : List ℕ) → (i ≡ j → ⊥) → Unfolds mid codes i j cs ps → Apart ps × (Among j ps → ⊥)
-      alone i j cs ps off (edge e) = (((λ m. m), tt), λ m. elim m [ inl o ↦ off (sym o) | inr o ↦ o ])
-      alone i j cs ps off (halves m e x y) = absurd (omega (arith, straight i j))
+      alone : (i j : ℕ) (cs ps : List ℕ) → (i ≡ j → ⊥) → Unfolds links i j cs ps → Apart ps × (Among j ps → ⊥)
+      alone i j cs ps off (edge c e) = (((λ m. m), tt), λ m. elim m [ inl o ↦ off (sym o) | inr o ↦ o ])
+      alone i j cs ps off (halves m e x y) = absurd (both_ways _ (ap is_direct e) (straight i j))
 
   -- ---- middles fall, so that ways can be unfolded
-  falls_from : (d : Table S) (mid : Middles) (k : ℕ) → k ≤ N.points
-      → ((i j m : ℕ) → mid i j ≡ suc m → (i ≡ j → ⊥) × ((a : S) × (d i j ≡ Some a))) → Pieced K N codes d mid k → Falls N.points mid
-  falls_from d mid k l there pieced = record {
+  falls_from : (d : Table S) (links : Links) (k : ℕ) → k ≤ N.points
+      → ((i j m : ℕ) → links i j ≡ Over m → (i ≡ j → ⊥) × ((a : S) × (d i j ≡ Some a))) → Pieced K N d links k → Falls N.points links
+  falls_from d links k l there pieced = record {
     inside = λ i j m e. (let s = parts i j m e in omega (arith, s.1.low));
     first = λ i j m e. (parts i j m e).1.first_low;
     second = λ i j m e. (parts i j m e).1.second_low;
   }
     where
-      parts : (i j m : ℕ) → mid i j ≡ suc m → (a : S) × Split K N codes d mid k i j a m
-      parts i j m e = let (off, (a, p)) = there i j m e in (a, split K N codes d mid k i j a m e (pieced i j a off p))
+      parts : (i j m : ℕ) → links i j ≡ Over m → (a : S) × Split K N d links k i j a m
+      parts i j m e = let (off, (a, p)) = there i j m e in (a, split K N d links k i j a m e (pieced i j a off p))
 
   -- an entry is the total of few edges, so it is small
-  small_again : (d : Table S) (mid : Middles) (k : ℕ) → k ≤ N.points → ((i j : ℕ) (a : S) → d i j ≡ Some a → (i < N.points) × (j < N.points))
+  small_again : (d : Table S) (links : Links) (k : ℕ) → k ≤ N.points → ((i j : ℕ) (a : S) → d i j ≡ Some a → (i < N.points) × (j < N.points))
       → ((i : ℕ) → i < N.points → d i i ≡ Some K.zero)
-      → ((i j m : ℕ) → mid i j ≡ suc m → (i ≡ j → ⊥) × ((a : S) × (d i j ≡ Some a))) → Pieced K N codes d mid k → Simple K codes d mid → Small K d b
-  small_again d mid k l inside diagonal there pieced simple i j a p = by_points (ℕ_discrete i j)
+      → ((i j m : ℕ) → links i j ≡ Over m → (i ≡ j → ⊥) × ((a : S) × (d i j ≡ Some a))) → Pieced K N d links k → Simple K d links → Small K d b
+  small_again d links k l inside diagonal there pieced simple i j a p = by_points (ℕ_discrete i j)
     where
       by_points : Dec (i ≡ j) → K.size a ≤ b
       by_points (yes e) =
@@ -108,16 +110,16 @@ module _ {S : Type 0} {K : Kind S} (laws : Laws S K) (N : Network S) (sound : So
           let s : a ≡ K.zero = cc in
           omega (arith, ap K.size s, laws.zero_size)
       by_points (no off) =
-          let (cs, ps, x) = a_way N.points mid codes (falls_from d mid k l there pieced) i j in
-          let few = way_few laws N codes d mid k pieced N.points l inside simple x a off p in
-          omega (arith, chain_size laws N sound (way_chain laws N codes d mid k pieced sound x a off p (omega arith)))
+          let (cs, ps, x) = a_way N.points links (falls_from d links k l there pieced) i j in
+          let few = way_few laws N d links k pieced N.points l inside simple x a off p in
+          omega (arith, chain_size laws N sound (way_chain laws N d links k pieced sound x a off p (omega arith)))
 
   -- ---- a stage before which no edge closes a way below zero
-  module _ (d : Table S) (mid : Middles) (k : ℕ) (s : Stands K N codes b d mid k) (lk : k < N.points) where
+  module _ (d : Table S) (links : Links) (k : ℕ) (s : Stands K N b d links k) (lk : k < N.points) where
     zeros : Zeros K d
     zeros i j a e = (s.diagonal i (s.inside i j a e).0, s.diagonal j (s.inside i j a e).1)
 
-    module _ (none : (i : ℕ) → i < k → closes K d mid k i ≡ false) where
+    module _ (none : (i : ℕ) → i < k → closes K d links k i ≡ false) where
       staged : Staged K d k b
       staged = record {
         room = room;
@@ -125,7 +127,7 @@ module _ {S : Type 0} {K : Kind S} (laws : Laws S K) (N : Network S) (sound : So
         zeros = zeros;
         here = s.diagonal k lk;
         closed = s.closed;
-        fair = fair laws N codes d mid k b room s.small s.closed s.pieced none;
+        fair = fair laws N d links k b room s.small s.closed s.pieced none;
       }
 
       inside_after : (i j : ℕ) (a : S) → stage K d k i j ≡ Some a → (i < N.points) × (j < N.points)
@@ -137,25 +139,25 @@ module _ {S : Type 0} {K : Kind S} (laws : Laws S K) (N : Network S) (sound : So
       diagonal_after : (i : ℕ) → i < N.points → stage K d k i i ≡ Some K.zero
       diagonal_after i l = rw (eq-eqb i i refl) (s.diagonal i l)
 
-      there_after : (i j m : ℕ) → stage_middles K d mid k i j ≡ suc m → (i ≡ j → ⊥) × ((a : S) × (stage K d k i j ≡ Some a))
+      there_after : (i j m : ℕ) → stage_links K d links k i j ≡ Over m → (i ≡ j → ⊥) × ((a : S) × (stage K d k i j ≡ Some a))
       there_after i j m e = elim (cases_Bool (shortens K d k i j)) [
         | inl h ↦ (let (x, y, p, q, sum, less) = shortened laws d k i j h in (shortened_off laws d k i j h, (x ⊕⟨ K ⟩ y, rw h sum)))
         | inr h ↦ (let (off, (a, p)) = s.there i j m (rw h at e) in (off, (a, rw h p)))
       ]
 
-      pieced_after : Pieced K N codes (stage K d k) (stage_middles K d mid k) (suc k)
-      pieced_after = stage_pieced laws d k b staged N codes mid s.low s.pieced
+      pieced_after : Pieced K N (stage K d k) (stage_links K d links k) (suc k)
+      pieced_after = stage_pieced laws d k b staged N links s.low s.pieced
 
-      simple_after : Simple K codes (stage K d k) (stage_middles K d mid k)
-      simple_after = stage_simple laws N codes d mid k b staged s.pieced s.simple
+      simple_after : Simple K (stage K d k) (stage_links K d links k)
+      simple_after = stage_simple laws N d links k b staged s.pieced s.simple
 
-      stands_after : Stands K N codes b (stage K d k) (stage_middles K d mid k) (suc k)
+      stands_after : Stands K N b (stage K d k) (stage_links K d links k) (suc k)
       stands_after = record {
         inside = inside_after;
         diagonal = diagonal_after;
-        small = small_again (stage K d k) (stage_middles K d mid k) (suc k) lk inside_after diagonal_after there_after pieced_after simple_after;
+        small = small_again (stage K d k) (stage_links K d links k) (suc k) lk inside_after diagonal_after there_after pieced_after simple_after;
         below = λ c i j a e. stage_old laws d k i j a (sound.off c i j a e) (s.below c i j a e);
-        low = middles_low laws d k b staged N codes mid s.low s.pieced;
+        low = links_low laws d k b staged N links s.low s.pieced;
         there = there_after;
         closed = stage_closed laws d k b staged;
         even = stage_even laws d k b staged s.even;
@@ -164,21 +166,21 @@ module _ {S : Type 0} {K : Kind S} (laws : Laws S K) (N : Network S) (sound : So
       }
 
       -- of tables that are the stage's at each two points
-      pub stands_next : (e : Table S) (m : Middles) → ((p q : ℕ) → e p q ≡ stage K d k p q) → ((p q : ℕ) → m p q ≡ stage_middles K d mid k p q)
-          → Stands K N codes b e m (k + 1)
+      pub stands_next : (e : Table S) (m : Links) → ((p q : ℕ) → e p q ≡ stage K d k p q) → ((p q : ℕ) → m p q ≡ stage_links K d links k p q)
+          → Stands K N b e m (k + 1)
       stands_next e m p q =
           let x : e ≡ stage K d k = fun_ext (λ i. fun_ext (λ j. p i j)) in
-          let y : m ≡ stage_middles K d mid k = fun_ext (λ i. fun_ext (λ j. q i j)) in
+          let y : m ≡ stage_links K d links k = fun_ext (λ i. fun_ext (λ j. q i j)) in
           let z : k + 1 ≡ suc k = omega arith in
           rw (x, y, z) stands_after
 
     -- ---- an edge that closes a way below zero
-    module _ (i : ℕ) (li : i < k) (found : closes K d mid k i ≡ true) where
+    module _ (i : ℕ) (li : i < k) (found : closes K d links k i ≡ true) where
       abbrev Parts : Type 0
-      Parts = (mid i k ≡ 0) × ((a : S) × (c : S) × (d i k ≡ Some a) × (d k i ≡ Some c) × ((a ⊕⟨ K ⟩ c) <⟨ K ⟩ K.zero))
+      Parts = (is_direct (links i k) ≡ true) × ((a : S) × (c : S) × (d i k ≡ Some a) × (d k i ≡ Some c) × ((a ⊕⟨ K ⟩ c) <⟨ K ⟩ K.zero))
 
       parts : Parts
-      parts = by_test (eqb (mid i k) 0) refl found
+      parts = by_test (is_direct (links i k)) refl found
         where
           sum_below : (o : Option S) → joined K (d i k) (d k i) ≡ o → below_zero K o ≡ true
               → (a : S) × (c : S) × (d i k ≡ Some a) × (d k i ≡ Some c) × ((a ⊕⟨ K ⟩ c) <⟨ K ⟩ K.zero)
@@ -187,13 +189,18 @@ module _ {S : Type 0} {K : Kind S} (laws : Laws S K) (N : Network S) (sound : So
               let (a, c, p, q, adds) = joined_parts laws (d i k) (d k i) t e in
               (a, c, p, q, subst (λ (o : S). o <⟨ K ⟩ K.zero) adds h)
 
-          by_test : (t : Bool) → eqb (mid i k) 0 ≡ t → cond t (below_zero K (joined K (d i k) (d k i))) false ≡ true → Parts
-          by_test true e h = (eqb-true (mid i k) 0 e, sum_below _ refl h)
+          by_test : (t : Bool) → is_direct (links i k) ≡ t → cond t (below_zero K (joined K (d i k) (d k i))) false ≡ true → Parts
+          by_test true e h = (e, sum_below _ refl h)
           by_test false e h = absurd (both_ways _ refl h)
 
-      pub closing_edge : IsClosingEdge K N mid codes k i
-      closing_edge = record {
-        falls = falls_from d mid k (omega arith) s.there s.pieced;
+      -- its code
+      pub closing_code : (code : ℕ) × (links i k ≡ Direct code)
+      closing_code = direct_code (links i k) parts.0
+
+      pub closing_edge : (code : ℕ) → links i k ≡ Direct code → IsClosingEdge K N links k i code
+      closing_edge code back = record {
+        falls = falls_from d links k (omega arith) s.there s.pieced;
+        back = back;
         few = λ cs ps x. few cs ps x;
         negative = λ cs ps x. negative cs ps x;
       }
@@ -201,21 +208,21 @@ module _ {S : Type 0} {K : Kind S} (laws : Laws S K) (N : Network S) (sound : So
           off : k ≡ i → ⊥
           off e = omega arith
 
-          few : (cs ps : List ℕ) → Unfolds mid codes k i cs ps → suc (length cs) ≤ N.points
+          few : (cs ps : List ℕ) → Unfolds links k i cs ps → suc (length cs) ≤ N.points
           few cs ps x =
               let (e, (a, c, p, q, h)) = parts in
-              way_few laws N codes d mid k s.pieced N.points (omega arith) s.inside s.simple x c off q
+              way_few laws N d links k s.pieced N.points (omega arith) s.inside s.simple x c off q
 
-          negative : (cs ps : List ℕ) → Unfolds mid codes k i cs ps → NegativeCycle K N (cs ++ codes i k ∷ [])
+          negative : (cs ps : List ℕ) → Unfolds links k i cs ps → NegativeCycle K N (cs ++ code ∷ [])
           negative cs ps x =
               let (e, (a, c, p, q, h)) = parts in
               let size = few cs ps x in
-              let last : Edge K N (codes i k) i k a = one_edge K N codes d mid k i k a e (s.pieced i k a (λ o. off (sym o)) p) in
+              let last : Edge K N code i k a = one_edge K N d links k i k a code back (s.pieced i k a (λ o. off (sym o)) p) in
               let za = s.small i k a p in
               let zc = s.small k i c q in
-              let alone : Chain K N i k (codes i k ∷ []) (i ∷ []) a =
+              let alone : Chain K N i k (code ∷ []) (i ∷ []) a =
               go last stay (sum_some laws a K.zero (omega (arith, laws.zero_size)) ∙ ap (λ (o : S). Some o) (zero_right laws a (omega arith))) in
-              let way = way_chain laws N codes d mid k s.pieced sound x c off q (omega arith) in
+              let way = way_chain laws N d links k s.pieced sound x c off q (omega arith) in
               let (apart, not_last) = s.simple k i c cs ps off q x in (
                 c ⊕⟨ K ⟩ a,
                 (
@@ -229,7 +236,7 @@ module _ {S : Type 0} {K : Kind S} (laws : Laws S K) (N : Network S) (sound : So
               )
 
   -- ---- the end
-  module _ (d : Table S) (mid : Middles) (s : Stands K N codes b d mid N.points) where
+  module _ (d : Table S) (links : Links) (s : Stands K N b d links N.points) where
     pub stands_done : Done K N.points b d
     stands_done = record {
       inside = s.inside;
@@ -252,10 +259,10 @@ module _ {S : Type 0} {K : Kind S} (laws : Laws S K) (N : Network S) (sound : So
             let z : K.zero ≡ a = cc (s.diagonal i li, q) in
             ([], ([], subst (λ (u : ℕ). Chain K N i u [] [] a) o (subst (λ (u : S). Chain K N i i [] [] u) z stay), apart_distinct (j ∷ []) ((λ m. m), tt)))
         by_points (no off) =
-            let (cs, ps, x) = a_way N.points mid codes (falls_from d mid N.points (omega arith) s.there s.pieced) i j in
-            let few = way_few laws N codes d mid N.points s.pieced N.points (omega arith) s.inside s.simple x a off p in
+            let (cs, ps, x) = a_way N.points links (falls_from d links N.points (omega arith) s.there s.pieced) i j in
+            let few = way_few laws N d links N.points s.pieced N.points (omega arith) s.inside s.simple x a off p in
             let (apart, last) = s.simple i j a cs ps off p x in
-            (cs, (ps, way_chain laws N codes d mid N.points s.pieced sound x a off p (omega arith), apart_distinct (ps ++ j ∷ []) (apart_last ps j apart last)))
+            (cs, (ps, way_chain laws N d links N.points s.pieced sound x a off p (omega arith), apart_distinct (ps ++ j ∷ []) (apart_last ps j apart last)))
 
     pub stands_least : (i j : ℕ) → i < N.points → j < N.points → Least K N i j (d i j)
     stands_least i j li lj = by_entry (d i j) refl

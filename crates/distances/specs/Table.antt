@@ -1,17 +1,28 @@
--- Tables of spans that may be missing, with middle points, and one stage of closing. Assumes nothing.
+-- Tables of spans that may be missing, with links, and one stage of closing. Assumes nothing.
 -- For the steps of tighten and for proofs; what tighten promises is said by routes, without these.
 --     Table S               a span, or none, for each two points
---     Middles               for each two points 0, or m + 1 where the way leads over m
+--     Links                 for each two points the edge by which the way goes, or the point over which it goes
+--     rank l                0 for an edge, and m + 1 over m
 --     stage K d k           the table after ways over k were taken where they are shorter
 use Rattle.std.specs.Prelude.{◌≡◌, ℕ, suc, ◌<◌, ◌≤◌, Bool, true, false, cond, Some, None, Option, ◌==◌}
 use Rattle.spans.specs.Kind.{Kind, ◌≤⟨◌⟩◌}
 use Rattle.spans.specs.Sums.{◌⊕⟨◌⟩◌}
+use Rattle.distances.specs.declared.link.Link.{Link}
+use Rattle.distances.specs.declared.link.Link.TheVariants.{Direct, Over}
 
 abbrev pub Table : Type 0 → Type 0
 Table S = ℕ → ℕ → Option S
 
-abbrev pub Middles : Type 0
-Middles = ℕ → ℕ → ℕ
+abbrev pub Links : Type 0
+Links = ℕ → ℕ → Link
+
+abbrev pub is_direct : Link → Bool
+is_direct (Direct c) = true
+is_direct (Over m) = false
+
+abbrev pub rank : Link → ℕ
+rank (Direct c) = 0
+rank (Over m) = suc m
 
 module _ {S : Type 0} (K : Kind S) where
   -- the sum of two entries that are both there
@@ -43,12 +54,12 @@ module _ {S : Type 0} (K : Kind S) where
   abbrev pub stage : Table S → ℕ → Table S
   stage d k i j = cond (shortens d k i j) (joined (d i k) (d k j)) (d i j)
 
-  abbrev pub stage_middles : Table S → Middles → ℕ → Middles
-  stage_middles d mid k i j = cond (shortens d k i j) (suc k) (mid i j)
+  abbrev pub stage_links : Table S → Links → ℕ → Links
+  stage_links d links k i j = cond (shortens d k i j) (Over k) (links i j)
 
   -- the edge from i to k closes the way from k to i below zero
-  abbrev pub closes : Table S → Middles → ℕ → ℕ → Bool
-  closes d mid k i = cond (mid i k == 0) (below_zero (joined (d i k) (d k i))) false
+  abbrev pub closes : Table S → Links → ℕ → ℕ → Bool
+  closes d links k i = cond (is_direct (links i k)) (below_zero (joined (d i k) (d k i))) false
 
   -- no way over any point is shorter than its entry, where the sums are there
   abbrev pub Closed : Table S → Type 0

@@ -1,70 +1,91 @@
-// The edges of a source's hulls in a matrix, with their codes. Assumes that the source's network is legal and that the memory has room, as each requires.
-ghost use Rattle.std.specs.Prelude.{◌≡◌, ℕ, suc, ◌+◌, ◌*◌, ◌<◌, ◌≤◌, length, if◌then◌else◌, Some, None, nat_eq, nat_lt};
+// The edges of a source's hulls in a matrix, with their links. Assumes that the source's network is legal and that the memory has room, as each requires.
+ghost use Rattle.std.specs.Prelude.{◌≡◌, ℕ, suc, ◌+◌, ◌*◌, ◌<◌, ◌≤◌, length, if◌then◌else◌, Some, None, nat_eq, nat_lt, true};
 ghost use Rattle.networks.specs.Legal.{Legal};
-ghost use Rattle.networks.specs.Limits.{most_points, most_conditions};
+ghost use Rattle.networks.specs.Limits.{most_conditions};
 ghost use Rattle.distances.specs.Begun.{begun, Filled};
-ghost use Rattle.distances.specs.Edges.{Coded, coded, only_at, lesser, opposite_end, least_edge};
-ghost use Rattle.distances.specs.Graph.{hull_of};
-ghost use Rattle.distances.specs.Matrix.{table, numbers, Rest};
+ghost use Rattle.distances.specs.Edges.{Coded, condition_of, leaves, reaches, edge_weight, edge_code, edge_at, lesser, least_edge};
+ghost use Rattle.distances.specs.Table.{is_direct};
+ghost use Rattle.distances.specs.Matrix.{table, linked, Rest};
 
-use crate::matrix::{blank, improve, place};
+use crate::link::Link;
+use crate::matrix::{improve, place};
 use layers::Hull;
 use networks::Source;
 use spans::Span;
 
-// The weight of the edge forward of condition k.
-fn forward_weight<T: Source>(source: &T, k: usize) -> Option<T::Span>
-    ensures { result ≡ (hull_of T.Span.Span.kind (T.Source.means source.now) k).high }
-{
-    let hull = Hull::over(source);
-    hull.high(k, 0)
+// An edge of a condition: forward, with its hull's high end, or back, with the opposite of its low end.
+#[derive(Clone, Copy)]
+pub(crate) enum Edge {
+    Forward(usize),
+    Back(usize),
 }
 
-// The weight of the edge back of condition k.
-fn backward_weight<T: Source>(source: &T, k: usize) -> Option<T::Span>
-    ensures { result ≡ opposite_end T.Span.Span.kind (hull_of T.Span.Span.kind (T.Source.means source.now) k).low }
-{
-    let hull = Hull::over(source);
-    match hull.low(k, 0) {
-        Some(a) => a.opposite(),
-        None => None,
+impl Edge {
+    // The point that it leaves.
+    fn from<T: Source>(self, source: &T) -> usize
+        ensures { result ≡ leaves (T.Source.means source.now) self }
+    {
+        match self {
+            Edge::Forward(k) => source.from(k),
+            Edge::Back(k) => source.to(k),
+        }
+    }
+
+    // The point that it reaches.
+    fn to<T: Source>(self, source: &T) -> usize
+        ensures { result ≡ reaches (T.Source.means source.now) self }
+    {
+        match self {
+            Edge::Forward(k) => source.to(k),
+            Edge::Back(k) => source.from(k),
+        }
+    }
+
+    fn weight<T: Source>(self, source: &T) -> Option<T::Span>
+        ensures { result ≡ edge_weight T.Span.Span.kind (T.Source.means source.now) self }
+    {
+        let hull = Hull::over(source);
+        match self {
+            Edge::Forward(k) => hull.high(k, 0),
+            Edge::Back(k) => hull.low(k, 0)?.opposite(),
+        }
+    }
+
+    // Kept as a method: `From` asks nothing of its argument, and a code fits its type only below the limit on conditions.
+    fn code(self) -> u16
+        requires { condition_of self < most_conditions }
+        ensures { result ≡ edge_code self }
+    {
+        match self {
+            Edge::Forward(k) => 2 * k as u16,
+            Edge::Back(k) => 2 * k as u16 + 1,
+        }
     }
 }
 
-// The edge from one point to another, where it is the least so far.
-fn put_edge<S: Span>(
-    matrix: &mut [Option<S>],
-    codes: &mut [u16],
+// The edge, where it is the least so far.
+fn put_edge<T: Source>(
+    source: &T,
+    edge: Edge,
     n: usize,
-    from: usize,
-    to: usize,
-    weight: Option<S>,
-    code: u16,
+    matrix: &mut [Option<T::Span>],
+    links: &mut [Link],
 )
-    requires points { (n ≤ most_points) × ((from < n) × (to < n)) }
-    requires room { (n * n ≤ length matrix.old) × (n * n ≤ length codes.old) }
-    ensures filled { (edges : ℕ → ℕ → Coded S) → Filled n edges matrix.old codes.old
-        → Filled n (λ i j. lesser S.Span.kind (edges i j) (only_at from to i j (coded code weight))) matrix.new codes.new }
+    requires points { (n ≡ (T.Source.means source.now).points) × (condition_of edge < length (T.Source.means source.now).conditions) }
+    requires room { (n * n ≤ length matrix.old) × (n * n ≤ length links.old) }
+    requires legal { Legal T.Span.Span.kind (T.Source.means source.now) }
+    ensures filled { (edges : ℕ → ℕ → Coded T.Span) → Filled n edges matrix.old links.old
+        → Filled n (λ i j. lesser T.Span.Span.kind (edges i j) (edge_at T.Span.Span.kind (T.Source.means source.now) edge i j)) matrix.new links.new }
     ensures rest { Rest n matrix.old matrix.new }
 {
-    let at = place(n, from, to);
-    improve(matrix, codes, at, weight, code);
-}
-
-// The code of condition k's edge forward.
-fn forward_code(k: usize) -> u16
-    requires { k < most_conditions }
-    ensures { result ≡ 2 * k }
-{
-    2 * k as u16
-}
-
-// The code of its edge back.
-fn backward_code(k: usize) -> u16
-    requires { k < most_conditions }
-    ensures { result ≡ 2 * k + 1 }
-{
-    2 * k as u16 + 1
+    let at = place(n, edge.from(source), edge.to(source));
+    improve(
+        matrix,
+        links,
+        at,
+        edge.weight(source),
+        Link::Direct(edge.code()),
+    );
 }
 
 // Both edges of condition k, each where it is the least so far.
@@ -73,40 +94,22 @@ fn put_condition<T: Source>(
     n: usize,
     k: usize,
     matrix: &mut [Option<T::Span>],
-    codes: &mut [u16],
+    links: &mut [Link],
 )
-    requires points { (n ≡ (T.Source.means source.now).points) × ((n ≤ most_points) × (k < length (T.Source.means source.now).conditions)) }
-    requires room { (n * n ≤ length matrix.old) × (n * n ≤ length codes.old) }
+    requires points { (n ≡ (T.Source.means source.now).points) × (k < length (T.Source.means source.now).conditions) }
+    requires room { (n * n ≤ length matrix.old) × (n * n ≤ length links.old) }
     requires legal { Legal T.Span.Span.kind (T.Source.means source.now) }
-    requires filled { Filled n (least_edge T.Span.Span.kind (T.Source.means source.now) k) matrix.old codes.old }
-    ensures filled { Filled n (least_edge T.Span.Span.kind (T.Source.means source.now) (suc k)) matrix.new codes.new }
+    requires filled { Filled n (least_edge T.Span.Span.kind (T.Source.means source.now) k) matrix.old links.old }
+    ensures filled { Filled n (least_edge T.Span.Span.kind (T.Source.means source.now) (suc k)) matrix.new links.new }
     ensures rest { Rest n matrix.old matrix.new }
 {
-    let from = source.from(k);
-    let to = source.to(k);
-    put_edge(
-        matrix,
-        codes,
-        n,
-        from,
-        to,
-        forward_weight(source, k),
-        forward_code(k),
-    );
-    put_edge(
-        matrix,
-        codes,
-        n,
-        to,
-        from,
-        backward_weight(source, k),
-        backward_code(k),
-    );
+    put_edge(source, Edge::Forward(k), n, matrix, links);
+    put_edge(source, Edge::Back(k), n, matrix, links);
 }
 
 // Zero from each point to itself.
 fn put_zeros<S: Span>(matrix: &mut [Option<S>], n: usize)
-    requires { (n ≤ most_points) × (n * n ≤ length matrix.old) }
+    requires { n * n ≤ length matrix.old }
     ensures matrix { (i j : ℕ) → table n matrix.new i j ≡ (if nat_eq i j then (if nat_lt i n then Some S.Span.kind.zero else None) else table n matrix.old i j) }
     ensures rest { Rest n matrix.old matrix.new }
 {
@@ -121,22 +124,21 @@ pub(crate) fn fill_edges<T: Source>(
     source: &T,
     n: usize,
     matrix: &mut [Option<T::Span>],
-    codes: &mut [u16],
-    middles: &mut [u8],
+    links: &mut [Link],
 )
-    requires points { (n ≡ (T.Source.means source.now).points) × (n ≤ most_points) }
-    requires room { (n * n ≤ length matrix.old) × ((n * n ≤ length codes.old) × (n * n ≤ length middles.old)) }
+    requires points { n ≡ (T.Source.means source.now).points }
+    requires room { (n * n ≤ length matrix.old) × (n * n ≤ length links.old) }
     requires legal { Legal T.Span.Span.kind (T.Source.means source.now) }
     ensures matrix { (i j : ℕ) → table n matrix.new i j ≡ begun T.Span.Span.kind (T.Source.means source.now) i j }
-    ensures codes { (i j c : ℕ) (a : T.Span) → least_edge T.Span.Span.kind (T.Source.means source.now) (length (T.Source.means source.now).conditions) i j ≡ Some (a, c)
-        → numbers n codes.new i j ≡ c }
-    ensures middles { (i j : ℕ) → numbers n middles.new i j ≡ 0 }
+    ensures links { (i j c : ℕ) (a : T.Span) → least_edge T.Span.Span.kind (T.Source.means source.now) (length (T.Source.means source.now).conditions) i j ≡ Some (a, c)
+        → linked n links.new i j ≡ Link.Direct c }
+    ensures straight { (i j : ℕ) → is_direct (linked n links.new i j) ≡ true }
     ensures rest { Rest n matrix.old matrix.new }
 {
-    blank(matrix, n, None);
-    blank(middles, n, 0);
+    matrix[..n * n].fill(None);
+    links[..n * n].fill(Link::Direct(0));
     for k in 0..source.conditions() {
-        put_condition(source, n, k, matrix, codes);
+        put_condition(source, n, k, matrix, links);
     }
     put_zeros(matrix, n);
 }

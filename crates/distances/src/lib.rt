@@ -12,6 +12,7 @@ mod cycle;
 mod dates;
 mod edges;
 pub mod inner;
+mod link;
 mod matrix;
 mod relax;
 mod route;

@@ -1,11 +1,10 @@
-// A way unfolded from its middle points into the codes of its edges. Assumes what each requires: room in the lent memory, and
-// middle points that fall.
-ghost use Rattle.std.specs.Prelude.{◌≡◌, ◌*◌, ◌≤◌, length};
-ghost use Rattle.networks.specs.Limits.{most_points};
-ghost use Rattle.distances.specs.Matrix.{numbers};
+// A way unfolded from its links into the codes of its edges. Assumes what each requires: room in the lent memory, and links that fall.
+ghost use Rattle.std.specs.Prelude.{◌≡◌, ◌*◌, ◌<◌, ◌≤◌, length};
+ghost use Rattle.distances.specs.Matrix.{linked};
 ghost use Rattle.distances.specs.Unfolding.{Unfoldable, Unfolded};
 
-use crate::matrix::{code, middle};
+use crate::link::Link;
+use crate::matrix::entry;
 
 // The two points that a way joins.
 #[derive(Clone, Copy)]
@@ -19,38 +18,52 @@ impl Way {
     fn up_to(self, m: usize) -> Way
         ensures { result ≡ record { from = self.from; to = m } }
     {
-        Way {
-            from: self.from,
-            to: m,
-        }
+        Way { to: m, ..self }
     }
 
     // The second half.
     fn on_from(self, m: usize) -> Way
         ensures { result ≡ record { from = m; to = self.to } }
     {
-        Way {
-            from: m,
-            to: self.to,
-        }
+        Way { from: m, ..self }
     }
 }
 
-// Writes the codes of the way to the front of `out`, and answers how many edges it has. A way over a middle point is the way to
-// that point and then the way from it; the middle points of both are lower.
-pub(crate) fn unfold(middles: &[u8], codes: &[u16], n: usize, way: Way, out: &mut [u16]) -> usize
-    requires room { (n ≤ most_points) × ((n * n ≤ length middles.now) × (n * n ≤ length codes.now)) }
-    requires way { Unfoldable n (numbers n middles.now) (numbers n codes.now) way.from way.to (length out.old) }
-    ensures within { result ≤ length out.old }
-    ensures unfolded { Unfolded (numbers n middles.now) (numbers n codes.now) way.from way.to out.old out.new result }
-{
-    let over = middle(middles, n, way.from, way.to);
-    if over == 0 {
-        out[0] = code(codes, n, way.from, way.to);
-        return 1;
+// What the links of n points say: that of (i, j) stands at place i×n + j.
+#[derive(Clone, Copy)]
+pub(crate) struct Ways<'a> {
+    pub(crate) n: usize,
+    pub(crate) links: &'a [Link],
+    ghost room: { n * n ≤ length links.now },
+}
+
+impl Ways<'_> {
+    // How the way from i to j goes on.
+    pub(crate) fn link(&self, i: usize, j: usize) -> Link
+        requires { (i < self.now.n) × (j < self.now.n) }
+        ensures { result ≡ linked self.now.n self.now.links.now i j }
+    {
+        entry(self.links, self.n, i, j)
     }
-    let m = over as usize - 1;
-    let first = unfold(middles, codes, n, way.up_to(m), out);
-    let second = unfold(middles, codes, n, way.on_from(m), &mut out[first..]);
-    first + second
+
+    // Writes the codes of the way to the front of `out`, and answers how many edges it has. A way over a point is the way to that
+    // point and then the way from it; both rank lower.
+    pub(crate) fn unfold(&self, way: Way, out: &mut [u16]) -> usize
+        requires { Unfoldable self.now.n (linked self.now.n self.now.links.now) way.from way.to (length out.old) }
+        ensures within { result ≤ length out.old }
+        ensures unfolded { Unfolded (linked self.now.n self.now.links.now) way.from way.to out.old out.new result }
+    {
+        match self.link(way.from, way.to) {
+            Link::Direct(code) => {
+                out[0] = code;
+                1
+            }
+            Link::Over(point) => {
+                let m = point as usize;
+                let first = self.unfold(way.up_to(m), out);
+                let second = self.unfold(way.on_from(m), &mut out[first..]);
+                first + second
+            }
+        }
+    }
 }

@@ -4,14 +4,16 @@ ghost use Rattle.networks.specs.Legal.{Legal};
 ghost use Rattle.distances.specs.Tightening.{Ends, Tightens};
 ghost use Rattle.distances.specs.Decided.{NetworksDecided};
 
-use crate::closing::{ClosingEdge, close};
+use crate::closing::close;
 use crate::cycle::give_up;
+use crate::link::Link;
+use crate::route::Ways;
 use checks::check;
-use networks::{Fault, Lent, Source};
+use networks::{Fault, Lent, MOST_POINTS, Source};
 use spans::Span;
 
-// The entries of the largest matrix: 48 points by 48.
-const MOST_ENTRIES: usize = 2304;
+// The entries of the largest matrix.
+const MOST_ENTRIES: usize = MOST_POINTS * MOST_POINTS;
 
 // For a source whose network is legal, and memory that suffices, as the checks show.
 fn tighten_checked<T: Source>(
@@ -23,13 +25,15 @@ fn tighten_checked<T: Source>(
     requires room { ((T.Source.means source.now).points * (T.Source.means source.now).points ≤ length matrix.old) × ((T.Source.means source.now).points ≤ length cycle.old) }
     ensures { Ends T.Span.Span.kind (T.Source.means source.now) matrix.old cycle.old result matrix.new cycle.new }
 {
-    let mut middles = [0u8; MOST_ENTRIES];
-    let mut codes = [0u16; MOST_ENTRIES];
-    match close(source, matrix, &mut middles, &mut codes) {
+    let mut links = [Link::Direct(0); MOST_ENTRIES];
+    match close(source, matrix, &mut links) {
         None => Ok(()),
         Some(edge) => {
-            let n = source.points();
-            let edges = give_up(&middles, &codes, n, edge.first, edge.last, matrix, cycle);
+            let ways = Ways {
+                n: source.points(),
+                links: &links,
+            };
+            let edges = give_up(&ways, edge, matrix, cycle);
             Err(Fault::Cycle(edges))
         }
     }

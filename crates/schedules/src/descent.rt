@@ -7,7 +7,7 @@ ghost use Rattle.distances.specs.Closing.{Closes};
 ghost use Rattle.distances.specs.Matrix.{Rest};
 ghost use Rattle.schedules.specs.Choosing.{Places, Turns, ChosenUpto, RuledOut, GoesOn};
 
-use distances::inner::close;
+use distances::inner::{Link, close};
 use layers::Chosen;
 use networks::Source;
 use spans::Span;
@@ -21,11 +21,10 @@ pub(crate) fn descend<T: Source>(
     w: usize,
     windows: [u8; 64],
     matrix: &mut [Option<T::Span>],
-    middles: &mut [u8],
-    codes: &mut [u16],
+    links: &mut [Link],
 ) -> Option<[u8; 64]>
     requires legal { Legal T.Span.Span.kind (T.Source.means source.now) }
-    requires room { ((T.Source.means source.now).points * (T.Source.means source.now).points ≤ length matrix.old) × (((T.Source.means source.now).points * (T.Source.means source.now).points ≤ length middles.old) × ((T.Source.means source.now).points * (T.Source.means source.now).points ≤ length codes.old)) }
+    requires room { ((T.Source.means source.now).points * (T.Source.means source.now).points ≤ length matrix.old) × ((T.Source.means source.now).points * (T.Source.means source.now).points ≤ length links.old) }
     requires places { (Places (T.Source.means source.now) places) × (l < 6) }
     requires upto { ChosenUpto (T.Source.means source.now) windows (slice_index places l) }
     requires turn { (r : ℕ) → Turns (T.Source.means source.now) (slice_index places l) r → w < r }
@@ -40,12 +39,7 @@ pub(crate) fn descend<T: Source>(
     }
     let mut chosen = windows;
     chosen[place] = w as u8;
-    match close(
-        &Chosen::over(source, chosen, place + 1),
-        matrix,
-        middles,
-        codes,
-    ) {
+    match close(&Chosen::over(source, chosen, place + 1), matrix, links) {
         None => Some(chosen),
         Some(_) => None,
     }

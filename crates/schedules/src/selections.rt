@@ -10,6 +10,7 @@ ghost use Rattle.schedules.specs.Choosing.{Places, FoundFirst};
 
 use crate::choices::turns;
 use crate::descent::descend;
+use distances::inner::Link;
 use networks::Source;
 use spans::Span;
 
@@ -27,11 +28,10 @@ pub(crate) fn first_selection<T: Source>(
     source: &T,
     places: [usize; 7],
     matrix: &mut [Option<T::Span>],
-    middles: &mut [u8],
-    codes: &mut [u16],
+    links: &mut [Link],
 ) -> Option<[u8; 64]>
     requires legal { Legal T.Span.Span.kind (T.Source.means source.now) }
-    requires room { ((T.Source.means source.now).points * (T.Source.means source.now).points ≤ length matrix.old) × (((T.Source.means source.now).points * (T.Source.means source.now).points ≤ length middles.old) × ((T.Source.means source.now).points * (T.Source.means source.now).points ≤ length codes.old)) }
+    requires room { ((T.Source.means source.now).points * (T.Source.means source.now).points ≤ length matrix.old) × ((T.Source.means source.now).points * (T.Source.means source.now).points ≤ length links.old) }
     requires places { Places (T.Source.means source.now) places }
     requires closed { Closes T.Span.Span.kind (hulls (T.Source.means source.now)) matrix.old }
     ensures found { MatchOption result (HasPlan T.Span.Span.kind (T.Source.means source.now) → ⊥)
@@ -41,25 +41,22 @@ pub(crate) fn first_selection<T: Source>(
     let mut found = None;
     let start = first_windows();
     'selections: for a in 0..turns(source, places[0]) {
-        if let Some(one) = descend(source, places, 0, a, start, matrix, middles, codes) {
+        if let Some(one) = descend(source, places, 0, a, start, matrix, links) {
             for b in 0..turns(source, places[1]) {
-                if let Some(two) = descend(source, places, 1, b, one, matrix, middles, codes) {
+                if let Some(two) = descend(source, places, 1, b, one, matrix, links) {
                     for c in 0..turns(source, places[2]) {
-                        if let Some(three) = descend(
-                            source, places, 2, c, two, matrix, middles, codes,
-                        ) {
+                        if let Some(three) = descend(source, places, 2, c, two, matrix, links) {
                             for d in 0..turns(source, places[3]) {
                                 if let Some(four) = descend(
-                                    source, places, 3, d, three, matrix, middles, codes,
+                                    source, places, 3, d, three, matrix, links,
                                 ) {
                                     for e in 0..turns(source, places[4]) {
                                         if let Some(five) = descend(
-                                            source, places, 4, e, four, matrix, middles, codes,
+                                            source, places, 4, e, four, matrix, links,
                                         ) {
                                             for f in 0..turns(source, places[5]) {
                                                 if let Some(six) = descend(
-                                                    source, places, 5, f, five, matrix, middles,
-                                                    codes,
+                                                    source, places, 5, f, five, matrix, links,
                                                 ) {
                                                     found = Some(six);
                                                     break 'selections;

@@ -1,5 +1,5 @@
 -- A turn takes the earlier of the least so far and of what q offers. Assumes nothing.
-use Rattle.std.proofs.Common.{◌≡◌, ℕ, ◌<◌, subst, arith}
+use Rattle.std.proofs.Common.{◌≡◌, ℕ, ◌<◌, None, subst, arith}
 use Rattle.distances.specs.Matrix.{table}
 use Rattle.distances.specs.Steps.{LeastSoFar}
 use Rattle.distances.proofs.Dating.{latest_more}
@@ -10,7 +10,7 @@ loop-q-preserved g c =
     let q = c.loop-q.q in
     let below : q < c.args.p = omega arith in
     latest_more g.met.S.Span.lawful (table c.args.n c.args.matrix.now) c.args.dates.now c.args.p q
-    c.date_at.result c.entry.result c.loop-q.best c.latest_from.result c.earlier-best.result c.date_at.ensures c.entry.ensures
+    c.date_at.result c.entry.result c.loop-q.best c.latest_from.result c.earlier-best.result c.date_at.ensures (c.entry.ensures None)
     (λ a h. omega (arith, c.requires.near q below, c.requires.small q c.args.p a h))
     c.latest_from.ensures c.earlier-best.ensures c.loop-q.invariant
 

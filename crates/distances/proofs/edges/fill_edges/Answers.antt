@@ -1,24 +1,25 @@
-use Rattle.std.proofs.Common.{◌≡◌, ℕ, ◌*◌, length, drop, None, sym, refl, ap, ◌∙◌, subst, add-one, arith}
+use Rattle.std.proofs.Common.{◌≡◌, ℕ, ◌*◌, length, drop, None, sym, refl, ap, ◌∙◌, subst, add-one, arith, rules}
+use Rattle.distances.specs.declared.link.Link.TheVariants.{Direct}
 use Rattle.distances.specs.Begun.{Filled}
 use Rattle.distances.specs.Edges.{least_edge}
-use Rattle.distances.specs.Matrix.{numbers}
-use Rattle.distances.proofs.Matrices.{blank_square, blank_rest}
+use Rattle.distances.proofs.Matrices.{blank_all, blank_rest}
 use Rattle.distances.proofs.Filling.{none_filled, begun_is}
 use Rattle.distances.proofs.edges.fill_edges.Goals as goal
 
 pub loop-k-init : goal.loop-k-init
-loop-k-init g c = (
-  simp c.blank.ensures
-      (none_filled g.T.Span.Span.kind (g.T.Source.means c.args.source.now) c.args.n c.args.matrix.now c.args.codes.now),
-  refl,
-)
+loop-k-init g c =
+    let blank = blank_all None c.args.n None c.args.matrix.now (omega arith) (c.fill.ensures.after (λ y h. search rules)) in
+    let straight = blank_all (Direct 0) c.args.n (Direct 0) c.args.links.now (omega arith) (c.fill-2.ensures.after (λ y h. search rules)) in (
+      rw (blank, straight) (none_filled g.T.Span.Span.kind (g.T.Source.means c.args.source.now) c.args.n c.args.matrix.now c.args.links.now),
+      refl,
+    )
 
 pub loop-k-preserved : goal.loop-k-preserved
 loop-k-preserved g c =
     let K = g.T.Span.Span.kind in
     let N = g.T.Source.means c.args.source.now in
     let e = c.put_condition.ensures in (
-      subst (λ (k : ℕ). Filled c.args.n (least_edge K N k) c.put_condition.new.matrix c.put_condition.new.codes)
+      subst (λ (k : ℕ). Filled c.args.n (least_edge K N k) c.put_condition.new.matrix c.put_condition.new.links)
           (sym (add-one c.loop-k.k)) e.filled,
       e.rest ∙ c.loop-k.invariant.1,
     )
@@ -29,12 +30,13 @@ returns g c =
     let N = g.T.Source.means c.args.source.now in
     let n = c.args.n in
     let all : c.loop-k.k ≡ length N.conditions = omega arith in
-    let filled : Filled n (least_edge K N (length N.conditions)) c.loop-k.matrix c.loop-k.codes = rw all at c.loop-k.invariant.0 in
+    let filled : Filled n (least_edge K N (length N.conditions)) c.loop-k.matrix c.loop-k.links = rw all at c.loop-k.invariant.0 in
     record {
-      matrix = λ i j. c.put_zeros.ensures.matrix i j ∙ begun_is K N n c.loop-k.matrix c.loop-k.codes (omega arith) filled i j;
-      codes = filled.codes_beside;
-      middles = λ i j. ap (λ l. numbers n l i j) c.blank-2.ensures ∙ blank_square 0 n 0 c.args.middles.now i j;
+      matrix = λ i j. c.put_zeros.ensures.matrix i j ∙ begun_is K N n c.loop-k.matrix c.loop-k.links (omega arith) filled i j;
+      links = filled.codes_beside;
+      straight = filled.straight;
       rest =
           c.put_zeros.ensures.rest ∙ c.loop-k.invariant.1
-          ∙ ap (drop (n * n)) c.blank.ensures ∙ blank_rest None n None c.args.matrix.now;
+          ∙ ap (drop (n * n)) (blank_all None n None c.args.matrix.now (omega arith) (c.fill.ensures.after (λ y h. search rules)))
+          ∙ blank_rest None n None c.args.matrix.now;
     }

@@ -1,13 +1,14 @@
 use Rattle.std.proofs.Common.{arith}
-use Rattle.distances.proofs.Filling.{Put, put_filled, put_rest}
+use Rattle.distances.proofs.Filling.{Put, edge_there, same_edge, put_filled, put_rest}
 use Rattle.distances.proofs.edges.put_edge.Goals as goal
 
 pub returns : goal.returns
 returns g c =
-    let K = g.S.Span.kind in
+    let K = g.T.Span.Span.kind in
     let n = c.args.n in
-    let t : Put K n c.args.from c.args.to c.args.code c.args.weight
-    c.args.matrix.now c.improve.new.matrix c.args.codes.now c.improve.new.marks = record {
+    let (left, reached) = edge_there (g.T.Source.means c.args.source.now) c.args.edge c.requires.legal (omega arith) in
+    let t : Put K n c.from.result c.to.result c.code.result c.weight.result
+    c.args.matrix.now c.improve.new.matrix c.args.links.now c.improve.new.links = record {
       at = c.place-at.result;
       row_there = omega arith;
       column_there = omega arith;
@@ -15,6 +16,9 @@ returns g c =
       room_beside = omega arith;
       at_is = c.place-at.ensures.place;
       matrix_is = c.improve.ensures.matrix;
-      codes_are = c.improve.ensures.marks;
+      links_are = c.improve.ensures.links;
     } in
-    record { filled = put_filled K n t; rest = put_rest K n t }
+    record {
+      filled = λ edges f. same_edge K n edges c.from.ensures c.to.ensures c.code.ensures c.weight.ensures (put_filled K n t edges f);
+      rest = put_rest K n t;
+    }

@@ -1,16 +1,6 @@
 use Rattle.std.proofs.Common.{◌≡◌, ◌+◌, refl, ◌∙◌, arith}
-use Rattle.distances.proofs.Matrices.{place_below}
-use Rattle.distances.proofs.Relaxing.{Turn, turn_matrix, turn_middles, place_rest}
+use Rattle.distances.proofs.Relaxing.{Turn, turn_matrix, turn_links, place_rest}
 use Rattle.distances.proofs.relax.relax_part.Goals as goal
-
-pub loop-j-init : goal.loop-j-init
-loop-j-init g c = (λ d m f u v. (u, v), refl)
-
-pub relax_entry-requires : goal.relax_entry-requires
-relax_entry-requires g c =
-    let here = place_below c.args.n c.args.i c.loop-j.j (omega arith) (omega arith) in
-    let there = place_below c.args.n c.args.k c.loop-j.j (omega arith) (omega arith) in
-    (omega arith, (omega arith, omega arith))
 
 pub loop-j-preserved : goal.loop-j-preserved
 loop-j-preserved g c =
@@ -33,13 +23,13 @@ loop-j-preserved g c =
             upto = so_far.0;
           } in (
             turn_matrix K n k d t c.relax_entry.new.matrix c.relax_entry.ensures.matrix,
-            turn_middles K n k d t m c.loop-j.middles c.relax_entry.new.middles (omega arith) (omega arith) so_far.1 c.relax_entry.ensures.middles,
+            turn_links K n k d t m c.loop-j.links c.relax_entry.new.links (omega arith) refl so_far.1 c.relax_entry.ensures.links,
           ),
       place_rest K n c.args.i c.loop-j.j (c.place-row.result + c.loop-j.j) (c.place-via.result + c.loop-j.j) c.args.front c.loop-j.matrix c.relax_entry.new.matrix
           (omega arith) (omega arith) (omega arith) (omega arith) c.relax_entry.ensures.matrix ∙ inv.1,
     )
 
-pub returns : goal.returns
-returns g c =
-    let e : c.loop-j.j ≡ c.args.end = omega arith in
-    record { taken = rw e at c.loop-j.invariant.0; rest = c.loop-j.invariant.1 }
+pub returns-clause-taken : goal.returns-clause-taken
+returns-clause-taken g c =
+    let e : c.loop-j.j ≡ c.args.part.end = omega arith in
+    rw e at c.loop-j.invariant.0

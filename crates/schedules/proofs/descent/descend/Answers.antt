@@ -27,7 +27,7 @@ close-requires g c =
     let K = g.T.Span.Span.kind in
     let legal = legal_with _ _ _ _ c.requires.upto c.requires.turn (omega arith) g.met.T.Span.Span.lawful c.requires.legal in
     let both = ap (λ (M : Network g.row.T-Span.Denot). M.points * M.points) c.over.ensures in
-    record { legal = subst (Legal K) (sym c.over.ensures) legal; room = (omega arith, (omega arith, omega arith)) }
+    record { legal = subst (Legal K) (sym c.over.ensures) legal; room = (omega arith, omega arith) }
 
 pub returns-in-None : goal.returns-in-None
 returns-in-None g c =

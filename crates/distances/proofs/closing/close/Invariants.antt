@@ -1,11 +1,11 @@
 -- After the stages below k: what stands then, and nothing past n×n has changed. Assumes nothing.
 use Rattle.distances.specs.Limits.{largest_total}
-use Rattle.distances.specs.Matrix.{table, numbers, Rest}
+use Rattle.distances.specs.Matrix.{table, linked, Rest}
 use Rattle.distances.proofs.Stages.{Stands}
-use Rattle.distances.proofs.closing.close_points.Given as goal
+use Rattle.distances.proofs.closing.close.Given as goal
 
 abbrev pub invariant-loop-k : goal.invariant-loop-k
 invariant-loop-k g l =
-    Stands g.T.Span.Span.kind (g.T.Source.means l.source) (numbers l.n l.codes) largest_total
-    (table l.n l.matrix) (numbers l.n l.middles) l.k
+    Stands g.T.Span.Span.kind (g.T.Source.means l.source) largest_total
+    (table l.n l.matrix) (linked l.n l.links) l.k
     × Rest l.n l.initial.matrix l.matrix

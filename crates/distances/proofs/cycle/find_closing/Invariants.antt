@@ -1,8 +1,0 @@
-use Rattle.std.proofs.Common.{◌≡◌, ℕ, ◌<◌, false}
-use Rattle.distances.specs.Matrix.{table, numbers}
-use Rattle.distances.specs.Table.{closes}
-use Rattle.distances.proofs.cycle.find_closing.Given as goal
-
-abbrev pub invariant-loop-i : goal.invariant-loop-i
-invariant-loop-i g l =
-    (i : ℕ) → i < l.i → closes g.S.Span.kind (table l.n l.matrix) (numbers l.n l.middles) l.k i ≡ false
