@@ -52,10 +52,10 @@ module _ {S : Type 0} (P : Spelling S) where
     conditions = firsts (λ k. condition_from l (k * condition_numbers)) (length l / condition_numbers);
   }
 
-  -- condition k begins at a place with room for it
-  pub record Begins (n : ℕ) (l : List ℤ) (k at : ℕ) : Type 0 where
-    pub room : at + condition_numbers ≤ length l
-    pub meant : condition_at (numbers_network n l) k ≡ condition_from l at
+  -- these are the numbers of condition k
+  pub record IsCondition (n : ℕ) (l : List ℤ) (k : ℕ) (part : List ℤ) : Type 0 where
+    pub long : length part ≡ condition_numbers
+    pub meant : condition_at (numbers_network n l) k ≡ condition_from part 0
 
   -- there is no condition k
   pub record Absent (n : ℕ) (l : List ℤ) (k : ℕ) : Type 0 where
