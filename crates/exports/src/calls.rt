@@ -10,6 +10,7 @@ use networks::Source;
 use spans::Span;
 
 // The answer to numbers that are not a call: not those of whole conditions, or no room for the detail.
+// Kept as a number, like those of the refusals: the C interface answers in numbers.
 const NOT_A_CALL: usize = 100;
 
 // Tightens the network that the numbers mean, in memory for 48 by 48 entries.

@@ -1,6 +1,5 @@
 -- Where a number does not fit, or the numbers end before it, there is no condition k. Assumes nothing.
-use Rattle.std.proofs.Common.{length, ◌≡◌, ◌+◌, ◌*◌, ap, subst, arith}
-use Rattle.std.specs.Slice.{IsGetRangeResult}
+use Rattle.std.proofs.Common.{arith}
 use Rattle.exports.proofs.Counting.{absent_past, looked_up}
 use Rattle.exports.proofs.numbers.Numbers.condition.Goals as goal
 
