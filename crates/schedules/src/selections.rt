@@ -6,7 +6,7 @@ ghost use Rattle.networks.specs.Legal.{Legal};
 ghost use Rattle.networks.specs.Plan.{HasPlan};
 ghost use Rattle.distances.specs.Closing.{Closes};
 ghost use Rattle.distances.specs.Matrix.{Rest};
-ghost use Rattle.schedules.specs.Choosing.{Places, FoundFirst};
+ghost use Rattle.schedules.specs.Choosing.{ChoicePlaces, FoundFirst};
 
 use crate::choices::turns;
 use crate::descent::descend;
@@ -23,16 +23,17 @@ fn first_windows() -> [u8; 64]
 
 // Each level chooses a window at the place of one choice condition, closes the matrix for what is chosen so far with the hulls of the
 // rest, and passes over all that goes on from it where that admits no plan. Levels past the last choice condition have one turn.
+// Kept as six loops, with windows in fixed memory: a rule of the project, no recursion and no heap.
 pub(crate) fn first_selection<T: Source>(
     source: &T,
-    places: [usize; 7],
+    places: [Option<usize>; 6],
     matrix: &mut [Option<T::Span>],
     middles: &mut [u8],
     codes: &mut [u16],
 ) -> Option<[u8; 64]>
     requires legal { Legal T.Span.Span.kind (T.Source.means source.now) }
     requires room { ((T.Source.means source.now).points * (T.Source.means source.now).points ≤ length matrix.old) × (((T.Source.means source.now).points * (T.Source.means source.now).points ≤ length middles.old) × ((T.Source.means source.now).points * (T.Source.means source.now).points ≤ length codes.old)) }
-    requires places { Places (T.Source.means source.now) places }
+    requires places { ChoicePlaces (T.Source.means source.now) places }
     requires closed { Closes T.Span.Span.kind (hulls (T.Source.means source.now)) matrix.old }
     ensures found { MatchOption result (HasPlan T.Span.Span.kind (T.Source.means source.now) → ⊥)
         (λ us. FoundFirst T.Span.Span.kind (T.Source.means source.now) us matrix.new) }
