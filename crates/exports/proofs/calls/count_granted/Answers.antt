@@ -1,11 +1,8 @@
 -- A call is granted where the network can be granted, so all are or none is. Assumes nothing.
-use Rattle.std.proofs.Common.{◌≡◌, length, refl, arith}
+use Rattle.std.proofs.Common.{length, arith}
 use Rattle.exports.proofs.Answering.{answered, one_more, no_more}
 use Rattle.exports.proofs.calls.count_granted.Goals as goal
 use Rattle.exports.proofs.calls.count_granted.Goals.{then-is_ok, else-is_ok}
-
-pub loop-i-init : goal.loop-i-init
-loop-i-init g c = (omega arith, record { all = λ h. refl; none = λ h. refl })
 
 pub loop-i-preserved : goal.loop-i-preserved
 loop-i-preserved g c =
@@ -24,8 +21,3 @@ loop-i-preserved g c =
           simp w.granted-is
           (omega arith, no_more K N m n c.loop-i._i c.loop-i.granted inv.1 (rw (← c.is_ok.ensures.value, w.if-is_ok.false) at told))
     ]
-
-pub returns : goal.returns
-returns g c =
-    let e : c.loop-i._i ≡ c.args.times = omega arith in
-    rw e at c.loop-i.invariant.1
