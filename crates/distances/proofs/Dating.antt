@@ -1,7 +1,8 @@
 -- On a table whose closing is done there are dates by the date rule, they are small, and they keep every entry. Assumes nothing.
 -- Every premise is one about sizes: with entries of size at most b, point p's date has at most the size p×b.
-use Rattle.std.proofs.Common.{◌≡◌, ℕ, zero, suc, ◌+◌, ◌*◌, ◌<◌, ◌≤◌, List, [], ◌∷◌, ◌++◌, Some, None, Option, unwrap_or, sym, refl, ap, ◌∙◌, subst, mul-le-mul_right, suc-mul, arith}
+use Rattle.std.proofs.Common.{◌≡◌, ℕ, zero, suc, ◌+◌, ◌*◌, ◌<◌, ◌≤◌, List, [], ◌∷◌, ◌++◌, Some, None, Option, cond, unwrap_or, sym, refl, ap, ◌∙◌, subst, mul-le-mul_right, suc-mul, arith}
 use native.Mathlib.Decide.{ℕ_discrete}
+use Rattle.std.specs.List.{reduce, filter_map, range_with_len}
 use Rattle.std.proofs.lemmas.List.{length_push, get_or_push, get_or_append_left}
 use Rattle.spans.specs.Kind.{Kind, Laws, reach, ◌≤⟨◌⟩◌}
 use Rattle.spans.specs.Sums.{◌⊕⟨◌⟩◌, ⊖⟨◌⟩◌}
@@ -9,10 +10,10 @@ use Rattle.spans.specs.Order.{le_trans, le_of_eq, le_refl}
 use Rattle.spans.proofs.Group.{sum_some, sum_size, assoc, zero_right, opposite_some, opposite_size, le_sums, take_away, give_back}
 use Rattle.networks.specs.Plan.{date}
 use Rattle.distances.specs.Table.{Table, joined, Small, Done}
-use Rattle.distances.specs.Steps.{further, earliest, latest, GreatestSoFar, LeastSoFar}
+use Rattle.distances.specs.Steps.{earliest, latest, GreatestSoFar, LeastSoFar}
 use Rattle.distances.specs.DateRule.{EarliestFrom, LatestFrom, Dated, at_earliest, at_latest, at_zero, ByDateRule}
 use Rattle.distances.proofs.Tables.{is_there}
-use Rattle.distances.proofs.Furthest.{never_both, Offer, one_more, there_is_one}
+use Rattle.distances.proofs.Furthest.{never_both, Offer, furthest_of}
 use Rattle.distances.proofs.OneDating.{later_ranks, earlier_ranks, DatedBelow, dated_below_more}
 
 -- ---- numbers
@@ -55,37 +56,30 @@ module _ {S : Type 0} {K : Kind S} (laws : Laws S K) where
         let w = latest_there q e a (h e refl) in
         subst (Offer (λ x y. K.less y x) (λ r. d r p) (LatestFrom K d dates p) q) (sym w.2) w
 
-    -- one point more, where every difference is there: the later of the greatest so far and of q's
-    pub earliest_more : (q : ℕ) (x : S) (e best y r : Option S) → x ≡ date K dates q → e ≡ d p q
-        → ((a : S) → d p q ≡ Some a → K.size (date K dates q) + K.size a ≤ reach) → y ≡ earliest K x e → r ≡ further K.less best y
-        → GreatestSoFar K d dates p q best → GreatestSoFar K d dates p (q + 1) r
-    earliest_more q x e best y r dated entered room made is so_far =
-        let offered : Offer K.less (d p) (EarliestFrom K d dates p) q y =
-        rw (made, dated, entered) (offers_earliest q (d p q) refl room) in
-        rw is (one_more K.less (d p) (EarliestFrom K d dates p) (later_ranks laws) q best y so_far offered)
+    -- with entries of size b at most, near enough to every date before p
+    module _ (b : ℕ) (small : Small K d b) (near : (q : ℕ) → q < p → K.size (date K dates q) + b ≤ reach) where
+      -- the greatest earliest date is the latest of what the points before p offer, in turn
+      pub greatest_of : GreatestSoFar K d dates p p
+          (reduce (λ x y. cond (K.less x y) y x) (filter_map (λ q. earliest K (date K dates q) (d p q)) (range_with_len 0 p)))
+      greatest_of =
+          furthest_of K.less (d p) (EarliestFrom K d dates p) (later_ranks laws) (λ q. earliest K (date K dates q) (d p q)) p
+          (λ q l. offers_earliest q (d p q) refl (λ e a. omega (arith, small p q e a, near q l)))
 
-    -- and the earlier of the least so far and of q's
-    pub latest_more : (q : ℕ) (x : S) (e best y r : Option S) → x ≡ date K dates q → e ≡ d q p
-        → ((a : S) → d q p ≡ Some a → K.size (date K dates q) + K.size a ≤ reach) → y ≡ latest K x e → r ≡ further (λ a b. K.less b a) best y
-        → LeastSoFar K d dates p q best → LeastSoFar K d dates p (q + 1) r
-    latest_more q x e best y r dated entered room made is so_far =
-        let offered : Offer (λ a b. K.less b a) (λ o. d o p) (LatestFrom K d dates p) q y =
-        rw (made, dated, entered) (offers_latest q (d q p) refl room) in
-        rw is (one_more (λ a b. K.less b a) (λ o. d o p) (LatestFrom K d dates p) (earlier_ranks laws) q best y so_far offered)
+      -- and the least latest one the earliest of those
+      pub least_of : LeastSoFar K d dates p p
+          (reduce (λ x y. cond (K.less y x) y x) (filter_map (λ q. latest K (date K dates q) (d q p)) (range_with_len 0 p)))
+      least_of =
+          furthest_of (λ x y. K.less y x) (λ q. d q p) (LatestFrom K d dates p) (earlier_ranks laws) (λ q. latest K (date K dates q) (d q p)) p
+          (λ q l. offers_latest q (d q p) refl (λ e a. omega (arith, small q p e a, near q l)))
 
-    -- p has a date: the furthest either way, or zero
-    date_there : (b : ℕ) → Small K d b → ((q : ℕ) → q < p → K.size (date K dates q) + b ≤ reach) → (x : S) × Dated K d dates p x
-    date_there b small near =
-        let (o, up) = there_is_one K.less (d p) (EarliestFrom K d dates p) (later_ranks laws) p
-        (λ q e l a. (_, earliest_there q e a (omega (arith, small p q e a, near q l)))) in
-        let (r, down) = there_is_one (λ x y. K.less y x) (λ q. d q p) (LatestFrom K d dates p) (earlier_ranks laws) p
-        (λ q e l a. (_, latest_there q e a (omega (arith, small q p e a, near q l)))) in
-        chosen o r up down
-      where
-        chosen : (o r : Option S) → GreatestSoFar K d dates p p o → LeastSoFar K d dates p p r → (x : S) × Dated K d dates p x
-        chosen (Some x) r up down = (x, at_earliest up)
-        chosen None (Some x) up down = (x, at_latest up down)
-        chosen None None up down = (K.zero, at_zero up down)
+      -- p has a date: the furthest either way, or zero
+      date_there : (x : S) × Dated K d dates p x
+      date_there = chosen _ _ greatest_of least_of
+        where
+          chosen : (o r : Option S) → GreatestSoFar K d dates p p o → LeastSoFar K d dates p p r → (x : S) × Dated K d dates p x
+          chosen (Some x) r up down = (x, at_earliest up)
+          chosen None (Some x) up down = (x, at_latest up down)
+          chosen None None up down = (K.zero, at_zero up down)
 
     -- its size, by one entry from an earlier date
     pub dated_size : (b : ℕ) → Small K d b → ((q : ℕ) → q < p → K.size (date K dates q) ≤ q * b)

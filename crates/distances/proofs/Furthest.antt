@@ -2,7 +2,8 @@
 --     Furthest before at From m x    x is offered below m and before no offer there
 --     SoFar before at From m o      o is the furthest below m, or None where no point there has an entry
 -- `at q` is the entry of q, and `From q x` says that q offers x.
-use Rattle.std.proofs.Common.{◌≡◌, ℕ, zero, suc, ◌+◌, ◌<◌, Bool, true, false, cond, Some, None, Option, refl, ◌∙◌, subst, inl, inr, add-one, arith, below_more, MatchOption}
+use Rattle.std.proofs.Common.{◌≡◌, ℕ, zero, suc, ◌+◌, ◌<◌, Bool, true, false, cond, List, [], Some, None, Option, refl, sym, ◌∙◌, subst, inl, inr, add-zero, zero-add, arith, below_more, MatchOption}
+use Rattle.std.specs.List.{reduce, fold, filter_map, cons_option, range_with_len}
 use Rattle.std.specs.Cmp.{IsStrictWeakOrder}
 use Rattle.std.proofs.lemmas.Bool.{cases_Bool}
 use Rattle.distances.specs.Steps.{further}
@@ -57,17 +58,42 @@ module _ {S : Type 0} (before : S → S → Bool) (at : ℕ → Option S) (From 
         by_test true t = furthest_more m y (m, omega arith, w) (passes t) (λ e k. (y, w, not_before_itself y))
         by_test false t = furthest_more m x (q, omega arith, f) (λ r k e. h r e k) (λ e k. (y, w, t))
 
-    -- There is one, if each entry has its offer: point by point.
-    pub there_is_one : (m : ℕ) → ((q : ℕ) (e : S) → q < m → at q ≡ Some e → (y : S) × From q y) → (o : Option S) × SoFar m o
-    there_is_one zero offered = (None, nothing_yet)
-    there_is_one (suc m) offered =
-        let (o, s) = there_is_one m (λ q e l. offered q e (omega arith)) in
-        let (y, w) = by_entry (at m) refl in
-        (further before o y, subst (λ (k : ℕ). SoFar k (further before o y)) (add-one m) (one_more m o y s w))
-      where
-        by_entry : (x : Option S) → at m ≡ x → (y : Option S) × Offer m y
-        by_entry None e = (None, e)
-        by_entry (Some a) e = let (y, f) = offered m a (omega arith) e in (Some y, f)
+    -- The furthest of what the points below m offer, taken in turn.
+    module _ (offer : ℕ → Option S) where
+      taken : Option S → List S → Option S
+      taken best xs = reduce (λ x y. cond (before x y) y x) (cons_option best xs)
+
+      taken_none : (best : Option S) → best ≡ taken best []
+      unfolding taken
+      taken_none None = refl
+      taken_none (Some x) = refl
+
+      taken_more : (best y : Option S) (xs : List S) → taken (further before best y) xs ≡ taken best (cons_option y xs)
+      unfolding taken
+      taken_more None y xs = refl
+      taken_more (Some x) None xs = refl
+      taken_more (Some x) (Some y) xs = by_test (before x y)
+        where
+          by_test : (t : Bool) → reduce (λ x y. cond (before x y) y x) (cons_option (cond t (Some y) (Some x)) xs) ≡ Some (fold (λ x y. cond (before x y) y x) (cond t y x) xs)
+          by_test true = refl
+          by_test false = refl
+
+      taken_upto : (a n : ℕ) (best : Option S) → ((q : ℕ) → q < a + n → Offer q (offer q)) → SoFar a best
+          → SoFar (a + n) (taken best (filter_map offer (range_with_len a n)))
+      taken_upto a zero best offered s = subst (SoFar (a + 0)) (taken_none best) (subst (λ (k : ℕ). SoFar k best) (sym (add-zero a)) s)
+      taken_upto a (suc n) best offered s =
+          let more : SoFar ((a + 1) + n) (taken (further before best (offer a)) (filter_map offer (range_with_len (a + 1) n))) =
+          taken_upto (a + 1) n (further before best (offer a)) (λ q l. offered q (omega arith)) (one_more a best (offer a) s (offered a (omega arith))) in
+          let k : (a + 1) + n ≡ a + suc n = omega arith in
+          subst (SoFar (a + suc n)) (taken_more best (offer a) (filter_map offer (range_with_len (a + 1) n)))
+          (subst (λ (k : ℕ). SoFar k (taken (further before best (offer a)) (filter_map offer (range_with_len (a + 1) n)))) k more)
+
+      pub furthest_of : (m : ℕ) → ((q : ℕ) → q < m → Offer q (offer q))
+          → SoFar m (reduce (λ x y. cond (before x y) y x) (filter_map offer (range_with_len 0 m)))
+      unfolding taken
+      furthest_of m offered =
+          subst (λ (k : ℕ). SoFar k (taken None (filter_map offer (range_with_len 0 m)))) (zero-add m)
+          (taken_upto 0 m None (λ q l. offered q (omega arith)) nothing_yet)
 
   -- There is only one, if no point offers two: each is not before the other.
   pub only_one : ((q : ℕ) (x y : S) → From q x → From q y → x ≡ y) → ((q : ℕ) (x : S) → From q x → (e : S) × (at q ≡ Some e))

@@ -8,6 +8,7 @@ pub mod LeastEdges
 pub mod Stages
 pub mod Plans
 mod Furthest
+mod Reduced
 pub mod OneDating
 pub mod Dating
 pub mod Deciding

@@ -1,5 +1,6 @@
 -- What an answer of tighten says of the network: it can be granted, or it cannot. Assumes nothing.
-use Rattle.std.proofs.Common.{◌≡◌, ℕ, ◌+◌, ◌*◌, ◌≤◌, Bool, true, false, ◌&&◌, List, length, Some, None, Ok, Err, Option, sym, refl, ap, subst, arith}
+use Rattle.std.proofs.Common.{◌≡◌, ℕ, ◌+◌, ◌*◌, ◌≤◌, Bool, true, false, ◌&&◌, List, length, Some, None, Ok, Err, Option, Result, is_ok, sym, refl, ap, subst, arith}
+use Rattle.std.specs.Bool.{MatchBool}
 use Rattle.std.proofs.lemmas.Bool.{leb-true}
 use Rattle.spans.specs.Kind.{Kind}
 use Rattle.networks.specs.declared.fault.Fault.{Fault}
@@ -50,6 +51,11 @@ module _ {S : Type 0} (K : Kind S) (N : Network S) (matrix matrix' : List (Optio
       let h : Grantable K N (length matrix) (length cycle) =
       subst (λ (y : ℕ). Grantable K N (length matrix) y) (sym e) (subst (λ (y : ℕ). Grantable K N y c) (sym d) g) in
       refused f _ t h.0 h.1
+
+  pub answered : (r : Result (Unit {0}) Fault) → Tightens K N matrix cycle r matrix' cycle' → (m c : ℕ) → length matrix ≡ m → length cycle ≡ c
+      → MatchBool (is_ok r) (Grantable K N m c) (Grantable K N m c → ⊥)
+  answered (Ok x) t = ok_grantable x t
+  answered (Err f) t = err_not f t
 
 module _ {S : Type 0} (K : Kind S) (N : Network S) (m c i granted : ℕ) (so_far : AllOrNone K N m c i granted) where
   pub one_more : Grantable K N m c → AllOrNone K N m c (i + 1) (granted + 1)

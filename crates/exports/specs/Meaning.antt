@@ -1,7 +1,7 @@
 -- What numbers mean: a network, entries of a matrix, and the answer of a call. Assumes nothing.
 --     numbers_network P n l      the network of n points whose conditions the numbers l spell
 --     Answered ..                the answer of tightening that network, in numbers
-use Rattle.std.specs.Prelude.{◌≡◌, ℕ, zero, suc, ◌+◌, ◌*◌, ◌/◌, ◌%◌, ◌<◌, ◌≤◌, min, Bool, true, false, cond, ◌&&◌, List, [], ◌∷◌, length, drop, ℤ, pos, Some, None, Ok, Err, Option, Result, ◌==◌, int_lt, nat_lt, slice_index, slice_index_or, slice_set, unsigned_abs}
+use Rattle.std.specs.Prelude.{◌≡◌, ℕ, zero, suc, ◌+◌, ◌*◌, ◌/◌, ◌%◌, ◌<◌, min, Bool, true, false, cond, ◌&&◌, List, [], ◌∷◌, length, drop, ℤ, pos, Some, None, Ok, Err, Option, Result, ◌==◌, int_lt, nat_lt, slice_index, slice_index_or, slice_set, unsigned_abs}
 use Rattle.spans.specs.Kind.{Kind}
 use Rattle.networks.specs.declared.fault.Fault.{Fault}
 use Rattle.networks.specs.Limits.{most_points, most_conditions}
@@ -52,10 +52,10 @@ module _ {S : Type 0} (P : Spelling S) where
     conditions = firsts (λ k. condition_from l (k * condition_numbers)) (length l / condition_numbers);
   }
 
-  -- condition k begins at a place with room for it
-  pub record Begins (n : ℕ) (l : List ℤ) (k at : ℕ) : Type 0 where
-    pub room : at + condition_numbers ≤ length l
-    pub meant : condition_at (numbers_network n l) k ≡ condition_from l at
+  -- these are the numbers of condition k
+  pub record IsCondition (n : ℕ) (l : List ℤ) (k : ℕ) (part : List ℤ) : Type 0 where
+    pub long : length part ≡ condition_numbers
+    pub meant : condition_at (numbers_network n l) k ≡ condition_from part 0
 
   -- there is no condition k
   pub record Absent (n : ℕ) (l : List ℤ) (k : ℕ) : Type 0 where

@@ -1,7 +1,7 @@
 -- How a span is spelled in numbers. Assumes nothing.
 --     Spelling S     how many numbers a span takes, the span at a place, and a span written to a place
---     Spells P       what is written is read again, and nothing else changes
-use Rattle.std.specs.Prelude.{◌≡◌, ℕ, ◌+◌, ◌≤◌, List, length, drop, ℤ, pos, slice_index_or, slice_set}
+--     Spells P       what is written is read again, nothing else changes, and a span is read from its own numbers
+use Rattle.std.specs.Prelude.{◌≡◌, ℕ, ◌+◌, ◌≤◌, List, length, take, drop, ℤ, pos, slice_index_or, slice_set}
 use Rattle.spans.specs.declared.minutes.Minutes.{Minutes}
 use Rattle.spans.specs.declared.pair.Pair.{Pair}
 use Rattle.spans.specs.MinuteKind.{minutes}
@@ -16,6 +16,7 @@ pub record Spells {S : Type 0} (P : Spelling S) : Type 0 where
   pub read_back : (l : List ℤ) (p : ℕ) (x : S) → p + P.width ≤ length l → P.read (P.write l p x) p ≡ x
   pub before : (l : List ℤ) (p q : ℕ) (x : S) → q + P.width ≤ p → P.read (P.write l p x) q ≡ P.read l q
   pub rest : (l : List ℤ) (p m : ℕ) (x : S) → p + P.width ≤ m → drop m (P.write l p x) ≡ drop m l
+  pub own : (l : List ℤ) (a m p : ℕ) → p + P.width ≤ m → P.read (take m (drop a l)) p ≡ P.read l (a + p)
 
 -- one number
 abbrev pub minute_spelling : Spelling Minutes

@@ -8,9 +8,9 @@ use crate::spelled::Spelled;
 use distances::tighten;
 use networks::Source;
 use spans::Span;
-use std::marker::PhantomData;
 
 // The answer to numbers that are not a call: not those of whole conditions, or no room for the detail.
+// Kept as a number, like those of the refusals: the C interface answers in numbers.
 const NOT_A_CALL: usize = 100;
 
 // Tightens the network that the numbers mean, in memory for 48 by 48 entries.
@@ -30,11 +30,7 @@ pub(crate) fn tighten_numbers<S: Spelled>(
     if conditions.len() % of_condition::<S>() != 0 || detail.len() == 0 {
         return NOT_A_CALL;
     }
-    let source = Numbers::<S> {
-        points,
-        numbers: conditions,
-        kind: PhantomData,
-    };
+    let source = Numbers::<S>::new(points, conditions);
     let room = (matrix.len() / S::width())
         .min(present.len())
         .min(memory.len());
@@ -62,9 +58,8 @@ fn count_granted<T: Source>(
 {
     let mut granted = 0;
     for _i in 0..times {
-        match tighten(source, memory, cycle) {
-            Ok(()) => granted += 1,
-            Err(_) => {}
+        if tighten(source, memory, cycle).is_ok() {
+            granted += 1;
         }
     }
     granted
@@ -80,10 +75,6 @@ pub(crate) fn close_numbers<S: Spelled>(
 ) -> usize
     ensures { AllOrNone S.Span.kind (numbers_network S.Spelled.spelling points conditions.now) (length memory.old) (length cycle.old) times result }
 {
-    let source = Numbers::<S> {
-        points,
-        numbers: conditions,
-        kind: PhantomData,
-    };
+    let source = Numbers::<S>::new(points, conditions);
     count_granted(&source, memory, cycle, times)
 }

@@ -33,7 +33,7 @@ pub(crate) fn write_entries<S: Spelled>(
     ensures rest { drop (entries * S.Spelled.spelling.width) matrix.new ≡ drop (entries * S.Spelled.spelling.width) matrix.old }
     ensures marks { drop entries present.new ≡ drop entries present.old }
 {
-    for p in 0..entries {
-        write_entry(memory[p], p, matrix, present);
+    for (p, entry) in memory[..entries].iter().enumerate() {
+        write_entry(*entry, p, matrix, present);
     }
 }

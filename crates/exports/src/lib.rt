@@ -24,6 +24,9 @@ mod spelled;
 // The entries of the largest matrix: 48 points by 48.
 const MOST_ENTRIES: usize = 2304;
 
+// Kept as a function for each kind, here and below: the C interface needs names and types that C knows. Beside the memory, whose size goes by
+// the kind, all is said once, for any kind.
+
 // Tightens at minutes. Granted, the answer is 0, and for each p below points×points the entry p of the matrix is matrix[p] where present[p] is
 // above zero, else missing. Refused, it is the number of the refusal, and detail[0] is its detail; where that number is 10, so many codes of a cycle
 // below zero stand at the front of `cycle`. The answer 100 is none of the engine's: the numbers are not those of whole conditions, or there is no

@@ -1,7 +1,6 @@
 // Conditions spelled in numbers as a source.
-ghost use Rattle.std.specs.Prelude.{◌≡◌, ◌+◌, ◌<◌, ◌≤◌, length, pos, MatchOption};
-ghost use Rattle.networks.specs.Network.{condition_at};
-ghost use Rattle.exports.specs.Meaning.{point_of, end_at, numbers_network, condition_numbers, Begins, Absent};
+ghost use Rattle.std.specs.Prelude.{◌≡◌, ◌+◌, ◌<◌, ◌≤◌, length, MatchOption};
+ghost use Rattle.exports.specs.Meaning.{point_of, end_at, numbers_network, condition_numbers, IsCondition, Absent};
 
 use crate::spelled::Spelled;
 use networks::{MOST_POINTS, Source};
@@ -12,11 +11,7 @@ use std::marker::PhantomData;
 fn point(number: i64) -> usize
     ensures { result ≡ point_of number }
 {
-    if number < 0 {
-        MOST_POINTS
-    } else {
-        number as usize
-    }
+    usize::try_from(number).unwrap_or(MOST_POINTS)
 }
 
 // The end whose mark stands at `at`.
@@ -24,11 +19,7 @@ fn end<S: Spelled>(numbers: &[i64], at: usize) -> Option<S>
     requires { at + 1 + S.Spelled.spelling.width ≤ length numbers.now }
     ensures { result ≡ end_at S.Spelled.spelling numbers.now at }
 {
-    if 0 < numbers[at] {
-        Some(S::read(numbers, at + 1))
-    } else {
-        None
-    }
+    (0 < numbers[at]).then(|| S::read(numbers, at + 1))
 }
 
 // The numbers of one condition: from, to, and two ends with their marks.
@@ -40,29 +31,31 @@ pub(crate) fn of_condition<S: Spelled>() -> usize
 
 #[derive(Drop)]
 pub(crate) struct Numbers<'a, S> {
-    pub(crate) points: usize,
-    pub(crate) numbers: &'a [i64],
-    pub(crate) kind: PhantomData<S>,
+    points: usize,
+    numbers: &'a [i64],
+    kind: PhantomData<S>,
 }
 
-impl<S: Spelled> Numbers<'_, S> {
-    // How many conditions there are; what is left over means none.
-    fn count(&self) -> usize
-        ensures { result ≡ length (numbers_network S.Spelled.spelling self.now.points self.now.numbers.now).conditions }
+impl<'a, S: Spelled> Numbers<'a, S> {
+    pub(crate) fn new(points: usize, numbers: &'a [i64]) -> Self
+        ensures points { result.points ≡ points }
+        ensures numbers { result.numbers.now ≡ numbers.now }
     {
-        self.numbers.len() / of_condition::<S>()
+        Numbers {
+            points,
+            numbers,
+            kind: PhantomData,
+        }
     }
 
-    // Where condition k begins, if it is there.
-    fn place(&self, k: usize) -> Option<usize>
+    // The numbers of condition k, if it is there; what is left over means none.
+    fn condition(&self, k: usize) -> Option<&'a [i64]>
         ensures { MatchOption result (Absent S.Spelled.spelling self.now.points self.now.numbers.now k)
-            (λ at. Begins S.Spelled.spelling self.now.points self.now.numbers.now k at) }
+            (λ part. IsCondition S.Spelled.spelling self.now.points self.now.numbers.now k part.now) }
     {
-        if k < self.count() {
-            Some(k * of_condition::<S>())
-        } else {
-            None
-        }
+        let size = of_condition::<S>();
+        let at = k.checked_mul(size)?;
+        self.numbers.get(at..at.checked_add(size)?)
     }
 }
 
@@ -76,49 +69,32 @@ impl<S: Spelled> Source for Numbers<'_, S> {
     }
 
     fn conditions(&self) -> usize {
-        self.count()
+        self.numbers.len() / of_condition::<S>()
     }
 
     fn from(&self, k: usize) -> usize {
-        match self.place(k) {
-            Some(at) => point(self.numbers[at]),
-            None => 0,
-        }
+        self.condition(k).map_or(0, |numbers| point(numbers[0]))
     }
 
     fn to(&self, k: usize) -> usize {
-        match self.place(k) {
-            Some(at) => point(self.numbers[at + 1]),
-            None => 0,
-        }
+        self.condition(k).map_or(0, |numbers| point(numbers[1]))
     }
 
     fn windows(&self, k: usize) -> usize {
-        match self.place(k) {
-            Some(_) => 1,
-            None => 0,
-        }
+        self.condition(k).map_or(0, |_| 1)
     }
 
     fn low(&self, k: usize, w: usize) -> Option<S> {
-        match self.place(k) {
-            Some(at) => if w == 0 {
-                end(self.numbers, at + 2)
-            } else {
-                None
-            },
-            None => None,
-        }
+        let numbers = self.condition(k)?;
+        if w == 0 { end(numbers, 2) } else { None }
     }
 
     fn high(&self, k: usize, w: usize) -> Option<S> {
-        match self.place(k) {
-            Some(at) => if w == 0 {
-                end(self.numbers, at + 3 + S::width())
-            } else {
-                None
-            },
-            None => None,
+        let numbers = self.condition(k)?;
+        if w == 0 {
+            end(numbers, 3 + S::width())
+        } else {
+            None
         }
     }
 }

@@ -1,5 +1,6 @@
 -- One window more is chosen, at place l of the choice conditions: that goes on, or is ruled out. Assumes nothing.
-use Rattle.std.proofs.Common.{◌≡◌, ℕ, suc, ◌+◌, ◌<◌, ◌≤◌, List, length, get_or, set, Option, sym, refl, ◌∙◌, subst, arith, length-set, get_or-set_other, get_or-set_same}
+use Rattle.std.proofs.Common.{◌≡◌, ℕ, suc, ◌+◌, ◌<◌, ◌≤◌, List, length, get_or, set, Bool, Some, None, Option, MatchOption, true, false, not, is_some, sym, refl, ◌∙◌, subst, arith, length-set, get_or-set_other, get_or-set_same}
+use Rattle.std.specs.Bool.{then_some}
 use Rattle.spans.specs.Kind.{Kind, Laws}
 use Rattle.networks.specs.Network.{Network, condition_at}
 use Rattle.networks.specs.Hull.{hulls}
@@ -41,15 +42,15 @@ module _ {S : Type 0} (N : Network S) (ws : List ℕ) (place w : ℕ) (upto : Ch
         (agrees_more vs (set ws place w) place (λ k h. agrees k h ∙ sym (agrees_set ws place w k h)) (e ∙ sym with_number))
 
 -- ---- on to the next place
-module _ {S : Type 0} {K : Kind S} (N : Network S) (places : List ℕ) (right : Places N places) (l : ℕ) (early : l < 6)
-    (ws : List ℕ) (w : ℕ) (upto : ChosenUpto N ws (get_or places l 0)) (turn : (r : ℕ) → Turns N (get_or places l 0) r → w < r)
+module _ {S : Type 0} {K : Kind S} (N : Network S) (places : ℕ → ℕ) (right : Places N places) (l : ℕ) (early : l < 6)
+    (ws : List ℕ) (w : ℕ) (upto : ChosenUpto N ws (places l)) (turn : (r : ℕ) → Turns N (places l) r → w < r)
     (matrix : List (Option S)) where
   -- past the last choice condition all stays
-  pub stays : (w ≡ 0 → Closes K (chosen N ws (get_or places l 0)) matrix) → length N.conditions ≤ get_or places l 0
-      → GoesOn K N ws (get_or places l 0) w ws (get_or places (suc l) 0) matrix
+  pub stays : (w ≡ 0 → Closes K (chosen N ws (places l)) matrix) → length N.conditions ≤ places l
+      → GoesOn K N ws (places l) w ws (places (suc l)) matrix
   stays closed past =
-      let place = get_or places l 0 in
-      let next = get_or places (suc l) 0 in
+      let place = places l in
+      let next = places (suc l) in
       let none : w < 1 = turn 1 (record { of_condition = λ h. absurd (omega arith); past = λ h. refl }) in
       let end : place ≡ length N.conditions = omega (arith, right.within l (omega arith)) in
       let same : place ≡ next = end ∙ sym (right.stay l early end) in
@@ -61,11 +62,11 @@ module _ {S : Type 0} {K : Kind S} (N : Network S) (places : List ℕ) (right : 
       }
 
   -- up to the next place there is nothing to choose
-  pub goes_on : get_or places l 0 < length N.conditions → Closes K (chosen N (set ws (get_or places l 0) w) (get_or places l 0 + 1)) matrix
-      → GoesOn K N ws (get_or places l 0) w (set ws (get_or places l 0) w) (get_or places (suc l) 0) matrix
+  pub goes_on : places l < length N.conditions → Closes K (chosen N (set ws (places l) w) (places l + 1)) matrix
+      → GoesOn K N ws (places l) w (set ws (places l) w) (places (suc l)) matrix
   goes_on here closes =
-      let place = get_or places l 0 in
-      let next = get_or places (suc l) 0 in
+      let place = places l in
+      let next = places (suc l) in
       let us = set ws place w in
       let long = with_long N ws place w upto turn here in
       let rise : place < next = right.rise l early here in
@@ -83,3 +84,11 @@ module _ {S : Type 0} {K : Kind S} (N : Network S) (places : List ℕ) (right : 
         };
         closes = subst (λ (M : Network S). Closes K M matrix) (sym same) closes;
       }
+
+-- what `is_none().then_some(x)` answers
+pub none_then : {A B P R : Type 0} {Q : A → Type 0} (T : B → Type 0) (o : Option A) (x : B) (b : Bool) (r : Option B) → MatchOption o P Q
+    → is_some o ≡ not b → r ≡ then_some b x → (P → T x) → ((a : A) → Q a → R) → MatchOption r R T
+none_then {A} {B} {P} {R} {Q} T None x true r h e f good bad = subst (λ (q : Option B). MatchOption q R T) (sym f) (good h)
+none_then {A} {B} {P} {R} {Q} T None x false r h e f good bad = absurd (grind arith)
+none_then {A} {B} {P} {R} {Q} T (Some a) x true r h e f good bad = absurd (grind arith)
+none_then {A} {B} {P} {R} {Q} T (Some a) x false r h e f good bad = subst (λ (q : Option B). MatchOption q R T) (sym f) (bad a h)

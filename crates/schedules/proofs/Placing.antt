@@ -1,11 +1,12 @@
 -- The places of the choice conditions, each the next after the one before. Assumes nothing.
-use Rattle.std.proofs.Common.{◌≡◌, ℕ, zero, suc, ◌+◌, ◌<◌, ◌≤◌, List, [], ◌∷◌, length, get_or, drop, subst, inl, inr, arith}
+use Rattle.std.proofs.Common.{◌≡◌, ℕ, zero, suc, ◌+◌, ◌<◌, ◌≤◌, List, [], ◌∷◌, length, get_or, drop, Some, None, Option, unwrap_or, IfSome, refl, sym, ◌∙◌, subst, inl, inr, arith}
+use Rattle.std.proofs.lemmas.List.{get_or_past}
 use Rattle.std.proofs.lemmas.Bool.{lt-ltb, cases_lt}
 use Rattle.spans.specs.Kind.{Kind}
 use Rattle.networks.specs.Network.{Condition, Network, no_condition, condition_at}
 use Rattle.networks.specs.Refusal.{choices}
 use Rattle.networks.specs.Legal.{Legal}
-use Rattle.schedules.specs.Choosing.{NextChoice, Places}
+use Rattle.schedules.specs.Choosing.{NextChoice, Places, ChoicePlaces, place_of}
 
 -- ---- six of something
 by_six : (P : ℕ → Type 0) → P 0 → P 1 → P 2 → P 3 → P 4 → P 5 → (l : ℕ) → l < 6 → P l
@@ -52,11 +53,12 @@ module _ {S : Type 0} {K : Kind S} (N : Network S) (legal : Legal K N) where
     lone = λ k la lb. lone_here k (omega (arith, next.within)) (next.none_before k (omega arith) lb);
   }
 
-  module _ (a b c d e f m : ℕ) (first : NextChoice N 0 a) (second : NextChoice N (a + 1) b) (third : NextChoice N (b + 1) c)
-      (fourth : NextChoice N (c + 1) d) (fifth : NextChoice N (d + 1) e) (sixth : NextChoice N (e + 1) f)
-      (all : m ≡ length N.conditions) where
+  module _ (places : ℕ → ℕ) (first : NextChoice N 0 (places 0)) (second : NextChoice N (places 0 + 1) (places 1))
+      (third : NextChoice N (places 1 + 1) (places 2)) (fourth : NextChoice N (places 2 + 1) (places 3))
+      (fifth : NextChoice N (places 3 + 1) (places 4)) (sixth : NextChoice N (places 4 + 1) (places 5))
+      (all : places 6 ≡ length N.conditions) where
     -- a choice condition behind the sixth would be a seventh
-    none_behind : (k : ℕ) → f < k → k < length N.conditions → 1 < length (condition_at N k).windows → ⊥
+    none_behind : (k : ℕ) → places 5 < k → k < length N.conditions → 1 < length (condition_at N k).windows → ⊥
     none_behind k lf lk choice =
         let cs = N.conditions in
         let (l6, h6) = sixth.is_choice (omega arith) in
@@ -65,16 +67,16 @@ module _ {S : Type 0} {K : Kind S} (N : Network S) (legal : Legal K N) where
         let (l3, h3) = third.is_choice (omega arith) in
         let (l2, h2) = second.is_choice (omega arith) in
         let (l1, h1) = first.is_choice (omega arith) in
-        let n1 = choices_found cs 0 a (omega arith) (omega arith) h1 in
-        let n2 = choices_found cs (suc a) b (omega arith) (omega arith) h2 in
-        let n3 = choices_found cs (suc b) c (omega arith) (omega arith) h3 in
-        let n4 = choices_found cs (suc c) d (omega arith) (omega arith) h4 in
-        let n5 = choices_found cs (suc d) e (omega arith) (omega arith) h5 in
-        let n6 = choices_found cs (suc e) f (omega arith) (omega arith) h6 in
-        let n7 = choices_found cs (suc f) k (omega arith) lk choice in
+        let n1 = choices_found cs 0 (places 0) (omega arith) (omega arith) h1 in
+        let n2 = choices_found cs (suc (places 0)) (places 1) (omega arith) (omega arith) h2 in
+        let n3 = choices_found cs (suc (places 1)) (places 2) (omega arith) (omega arith) h3 in
+        let n4 = choices_found cs (suc (places 2)) (places 3) (omega arith) (omega arith) h4 in
+        let n5 = choices_found cs (suc (places 3)) (places 4) (omega arith) (omega arith) h5 in
+        let n6 = choices_found cs (suc (places 4)) (places 5) (omega arith) (omega arith) h6 in
+        let n7 = choices_found cs (suc (places 5)) k (omega arith) lk choice in
         omega (arith, legal.few_choices)
 
-    last_step : Step f m
+    last_step : Step (places 5) (places 6)
     last_step = record {
       within = sixth.within;
       rise = λ l. omega arith;
@@ -86,12 +88,11 @@ module _ {S : Type 0} {K : Kind S} (N : Network S) (legal : Legal K N) where
           ]);
     }
 
-    -- six next choices and the number of conditions
-    pub places_found : Places N (a ∷ b ∷ c ∷ d ∷ e ∷ f ∷ m ∷ [])
-    places_found = record {
+    in_order : Places N places
+    in_order = record {
       within = λ l h. elim (cases_lt l 6) [
         | inl l6 ↦ (steps l l6).within
-        | inr l6 ↦ let is : 6 ≡ l = omega arith in subst (λ (i : ℕ). get_or places i 0 ≤ length N.conditions) is (omega arith)
+        | inr l6 ↦ let is : 6 ≡ l = omega arith in subst (λ (i : ℕ). places i ≤ length N.conditions) is (omega arith)
       ];
       last = all;
       rise = λ l h. (steps l h).rise;
@@ -100,9 +101,35 @@ module _ {S : Type 0} {K : Kind S} (N : Network S) (legal : Legal K N) where
       lone = λ l k h. (steps l h).lone k;
     }
       where
-        places : List ℕ
-        places = a ∷ b ∷ c ∷ d ∷ e ∷ f ∷ m ∷ []
+        steps : (l : ℕ) → l < 6 → Step (places l) (places (suc l))
+        steps = by_six (λ l. Step (places l) (places (suc l))) (step (places 0) (places 1) first.within second)
+            (step (places 1) (places 2) second.within third) (step (places 2) (places 3) third.within fourth)
+            (step (places 3) (places 4) fourth.within fifth) (step (places 4) (places 5) fifth.within sixth) last_step
 
-        steps : (l : ℕ) → l < 6 → Step (get_or places l 0) (get_or places (suc l) 0)
-        steps = by_six (λ l. Step (get_or places l 0) (get_or places (suc l) 0)) (step a b first.within second) (step b c second.within third)
-            (step c d third.within fourth) (step d e fourth.within fifth) (step e f fifth.within sixth) last_step
+  -- six next choices, of which some may be missing
+  module _ (a b c d e f : Option ℕ) where
+    abbrev number : Option ℕ → ℕ
+    number o = unwrap_or o (length N.conditions)
+
+    abbrev Below : Option ℕ → Type 0
+    Below o = IfSome o (λ k. k < length N.conditions)
+
+    below : (o : Option ℕ) → Below o → (k : ℕ) → o ≡ Some k → k < length N.conditions
+    below None h k e = absurd (grind arith)
+    below (Some p) h k e = let same : p ≡ k = grind arith in omega arith
+
+    pub places_found : Below a → Below b → Below c → Below d → Below e → Below f
+        → NextChoice N 0 (number a) → NextChoice N (number a + 1) (number b) → NextChoice N (number b + 1) (number c)
+        → NextChoice N (number c + 1) (number d) → NextChoice N (number d + 1) (number e) → NextChoice N (number e + 1) (number f)
+        → ChoicePlaces N (a ∷ b ∷ c ∷ d ∷ e ∷ f ∷ [])
+    places_found ta tb tc td te tf first second third fourth fifth sixth = record {
+      there = there;
+      in_order = in_order (place_of N (a ∷ b ∷ c ∷ d ∷ e ∷ f ∷ [])) first second third fourth fifth sixth refl;
+    }
+      where
+        there : (l k : ℕ) → get_or (a ∷ b ∷ c ∷ d ∷ e ∷ f ∷ []) l None ≡ Some k → k < length N.conditions
+        there l k is = elim (cases_lt l 6) [
+          | inl low ↦ by_six (λ i. (k : ℕ) → get_or (a ∷ b ∷ c ∷ d ∷ e ∷ f ∷ []) i None ≡ Some k → k < length N.conditions)
+              (below a ta) (below b tb) (below c tc) (below d td) (below e te) (below f tf) l low k is
+          | inr high ↦ below None tt k (sym (get_or_past (a ∷ b ∷ c ∷ d ∷ e ∷ f ∷ []) l None high) ∙ is)
+        ]

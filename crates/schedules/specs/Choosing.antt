@@ -4,8 +4,8 @@
 --     NumbersThere N ws place       each number below a place is that of a window
 --     NoneWith K N ws place         no selection that goes on from ws below a place has a plan
 --     NoneBelow K N ws place w      none of those whose number at the place is below w
---     Places N places                the choice conditions in order, at most six, and then the number of conditions
-use Rattle.std.specs.Prelude.{◌≡◌, ℕ, suc, ◌<◌, ◌≤◌, List, length, take, Option, slice_index, slice_index_or}
+--     ChoicePlaces N places          the choice conditions in order, at most six
+use Rattle.std.specs.Prelude.{◌≡◌, ℕ, suc, ◌<◌, ◌≤◌, List, length, take, Some, None, Option, unwrap_or, slice_index, slice_index_or}
 use Rattle.spans.specs.Kind.{Kind}
 use Rattle.networks.specs.Network.{Network, condition_at}
 use Rattle.networks.specs.Plan.{HasPlan}
@@ -29,14 +29,23 @@ module _ {S : Type 0} (N : Network S) where
     pub none_before : (k : ℕ) → from ≤ k → k < r → length (condition_at N k).windows ≤ 1
     pub is_choice : r < length N.conditions → (from ≤ r) × (1 < length (condition_at N r).windows)
 
-  -- place l of seven: that of the choice condition l, or the number of conditions where there are fewer; the last is that number
-  pub record Places (places : List ℕ) : Type 0 where
-    pub within : (l : ℕ) → l < 7 → slice_index places l ≤ length N.conditions
-    pub last : slice_index_or places 6 0 ≡ length N.conditions
-    pub rise : (l : ℕ) → l < 6 → slice_index places l < length N.conditions → slice_index places l < slice_index places (suc l)
-    pub stay : (l : ℕ) → l < 6 → slice_index places l ≡ length N.conditions → slice_index places (suc l) ≡ length N.conditions
-    pub lone_first : (k : ℕ) → k < slice_index places 0 → length (condition_at N k).windows ≡ 1
-    pub lone : (l k : ℕ) → l < 6 → slice_index places l < k → k < slice_index places (suc l) → length (condition_at N k).windows ≡ 1
+  -- the place of choice condition l, or the number of conditions where there are fewer
+  abbrev pub place_of : List (Option ℕ) → ℕ → ℕ
+  place_of places l = unwrap_or (slice_index_or places l None) (length N.conditions)
+
+  -- choice condition l stands at place l; past the last of at most six, the place is the number of conditions
+  pub record Places (places : ℕ → ℕ) : Type 0 where
+    pub within : (l : ℕ) → l < 7 → places l ≤ length N.conditions
+    pub last : places 6 ≡ length N.conditions
+    pub rise : (l : ℕ) → l < 6 → places l < length N.conditions → places l < places (suc l)
+    pub stay : (l : ℕ) → l < 6 → places l ≡ length N.conditions → places (suc l) ≡ length N.conditions
+    pub lone_first : (k : ℕ) → k < places 0 → length (condition_at N k).windows ≡ 1
+    pub lone : (l k : ℕ) → l < 6 → places l < k → k < places (suc l) → length (condition_at N k).windows ≡ 1
+
+  -- the choice conditions in order
+  pub record ChoicePlaces (places : List (Option ℕ)) : Type 0 where
+    pub there : (l k : ℕ) → slice_index_or places l None ≡ Some k → k < length N.conditions
+    pub in_order : Places (place_of places)
 
   -- how many windows there are to choose from at a place; one past the last condition
   pub record Turns (place r : ℕ) : Type 0 where
@@ -68,15 +77,15 @@ module _ {S : Type 0} (K : Kind S) (N : Network S) where
     pub closes : Closes K (chosen N us next) matrix
 
   -- at level l, with ws chosen below its place: no selection with a plan departs from ws at an earlier place with an earlier window
-  pub record Reached (places : List ℕ) (l : ℕ) (ws : List ℕ) : Type 0 where
-    pub upto : ChosenUpto N ws (slice_index places l)
-    pub none : (k : ℕ) → k < slice_index places l → k < length N.conditions → 1 < length (condition_at N k).windows → NoneBelow ws k (slice_index ws k)
+  pub record Reached (places : ℕ → ℕ) (l : ℕ) (ws : List ℕ) : Type 0 where
+    pub upto : ChosenUpto N ws (places l)
+    pub none : (k : ℕ) → k < places l → k < length N.conditions → 1 < length (condition_at N k).windows → NoneBelow ws k (slice_index ws k)
 
   -- and the windows below w at this place are ruled out; before the first one is tried, the matrix is closed for ws
-  pub record Turning (places : List ℕ) (l : ℕ) (ws : List ℕ) (w : ℕ) (matrix : List (Option S)) : Type 0 where
+  pub record Turning (places : ℕ → ℕ) (l : ℕ) (ws : List ℕ) (w : ℕ) (matrix : List (Option S)) : Type 0 where
     pub reached : Reached places l ws
-    pub below : NoneBelow ws (slice_index places l) w
-    pub closes : w ≡ 0 → Closes K (chosen N ws (slice_index places l)) matrix
+    pub below : NoneBelow ws (places l) w
+    pub closes : w ≡ 0 → Closes K (chosen N ws (places l)) matrix
 
   -- the numbers found are those of the first selection that has a plan, and the matrix is closed for it
   pub record FoundFirst (us : List ℕ) (matrix : List (Option S)) : Type 0 where

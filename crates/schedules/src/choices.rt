@@ -1,44 +1,48 @@
 // The choice conditions of a source: where they are, and how many windows each has. Assumes a legal network, as each requires.
+ghost use Rattle.std.specs.Prelude.{◌≡◌, ◌+◌, ◌<◌, length, unwrap_or, IfSome, MatchOption};
+ghost use Rattle.networks.specs.Network.{condition_at};
 ghost use Rattle.networks.specs.Legal.{Legal};
-ghost use Rattle.schedules.specs.Choosing.{NextChoice, Places, Turns};
+ghost use Rattle.schedules.specs.Choosing.{NextChoice, ChoicePlaces};
 
 use networks::Source;
 use spans::Span;
 
-// The next choice condition from number `from` on, or the number of conditions where there is none.
-fn next_choice<T: Source>(source: &T, from: usize) -> usize
-    ensures { NextChoice (T.Source.means source.now) from result }
+// The next choice condition from number `from` on.
+fn next_choice<T: Source>(source: &T, from: usize) -> Option<usize>
+    ensures there { IfSome result (λ k. k < length (T.Source.means source.now).conditions) }
+    ensures next { NextChoice (T.Source.means source.now) from (unwrap_or result (length (T.Source.means source.now).conditions)) }
 {
-    let count = source.conditions();
-    for k in from..count {
-        if source.windows(k) > 1 {
-            return k;
-        }
-    }
-    count
+    (from..source.conditions()).find(|k| source.windows(*k) > 1)
 }
 
-// The places of the choice conditions, of which there are at most six, and then the number of conditions.
-pub(crate) fn choice_places<T: Source>(source: &T) -> [usize; 7]
+// The next choice condition after the one at `place`, if that is there.
+fn choice_after<T: Source>(source: &T, place: Option<usize>) -> Option<usize>
+    requires legal { Legal T.Span.Span.kind (T.Source.means source.now) }
+    requires there { IfSome place (λ k. k < length (T.Source.means source.now).conditions) }
+    ensures there { IfSome result (λ k. k < length (T.Source.means source.now).conditions) }
+    ensures next { NextChoice (T.Source.means source.now) (unwrap_or place (length (T.Source.means source.now).conditions) + 1)
+        (unwrap_or result (length (T.Source.means source.now).conditions)) }
+{
+    next_choice(source, place? + 1)
+}
+
+// The places of the choice conditions, of which there are at most six.
+pub(crate) fn choice_places<T: Source>(source: &T) -> [Option<usize>; 6]
     requires { Legal T.Span.Span.kind (T.Source.means source.now) }
-    ensures { Places (T.Source.means source.now) result }
+    ensures { ChoicePlaces (T.Source.means source.now) result }
 {
     let a = next_choice(source, 0);
-    let b = next_choice(source, a + 1);
-    let c = next_choice(source, b + 1);
-    let d = next_choice(source, c + 1);
-    let e = next_choice(source, d + 1);
-    let f = next_choice(source, e + 1);
-    [a, b, c, d, e, f, source.conditions()]
+    let b = choice_after(source, a);
+    let c = choice_after(source, b);
+    let d = choice_after(source, c);
+    let e = choice_after(source, d);
+    let f = choice_after(source, e);
+    [a, b, c, d, e, f]
 }
 
-// How many windows there are to choose from at a place; one past the last condition.
-pub(crate) fn turns<T: Source>(source: &T, place: usize) -> usize
-    ensures { Turns (T.Source.means source.now) place result }
+// How many windows there are to choose from at a place; one where there is none.
+pub(crate) fn turns<T: Source>(source: &T, place: Option<usize>) -> usize
+    ensures { MatchOption place (result ≡ 1) (λ k. result ≡ length (condition_at (T.Source.means source.now) k).windows) }
 {
-    if place < source.conditions() {
-        source.windows(place)
-    } else {
-        1
-    }
+    place.map_or(1, |k| source.windows(k))
 }

@@ -1,11 +1,11 @@
 // One step down: a window is chosen at a place, and the matrix of what is chosen so far is closed. Assumes a legal network and memory
 // that suffices, as each requires.
-ghost use Rattle.std.specs.Prelude.{◌≡◌, ℕ, suc, ◌*◌, ◌<◌, ◌≤◌, length, MatchOption, slice_index};
+ghost use Rattle.std.specs.Prelude.{◌≡◌, ℕ, suc, ◌*◌, ◌<◌, ◌≤◌, length, MatchOption};
 ghost use Rattle.networks.specs.Legal.{Legal};
 ghost use Rattle.networks.specs.Selection.{chosen};
 ghost use Rattle.distances.specs.Closing.{Closes};
 ghost use Rattle.distances.specs.Matrix.{Rest};
-ghost use Rattle.schedules.specs.Choosing.{Places, Turns, ChosenUpto, RuledOut, GoesOn};
+ghost use Rattle.schedules.specs.Choosing.{place_of, ChoicePlaces, Turns, ChosenUpto, RuledOut, GoesOn};
 
 use distances::inner::{Link, close};
 use layers::Chosen;
@@ -16,7 +16,7 @@ use spans::Span;
 // plan. Past the last choice condition there is one window, and what is chosen stays as it was.
 pub(crate) fn descend<T: Source>(
     source: &T,
-    places: [usize; 7],
+    places: [Option<usize>; 6],
     l: usize,
     w: usize,
     windows: [u8; 64],
@@ -25,22 +25,24 @@ pub(crate) fn descend<T: Source>(
 ) -> Option<[u8; 64]>
     requires legal { Legal T.Span.Span.kind (T.Source.means source.now) }
     requires room { ((T.Source.means source.now).points * (T.Source.means source.now).points ≤ length matrix.old) × ((T.Source.means source.now).points * (T.Source.means source.now).points ≤ length links.old) }
-    requires places { (Places (T.Source.means source.now) places) × (l < 6) }
-    requires upto { ChosenUpto (T.Source.means source.now) windows (slice_index places l) }
-    requires turn { (r : ℕ) → Turns (T.Source.means source.now) (slice_index places l) r → w < r }
-    requires closed { w ≡ 0 → Closes T.Span.Span.kind (chosen (T.Source.means source.now) windows (slice_index places l)) matrix.old }
-    ensures goes { MatchOption result (RuledOut T.Span.Span.kind (T.Source.means source.now) windows (slice_index places l) w)
-        (λ us. GoesOn T.Span.Span.kind (T.Source.means source.now) windows (slice_index places l) w us (slice_index places (suc l)) matrix.new) }
+    requires places { (ChoicePlaces (T.Source.means source.now) places) × (l < 6) }
+    requires upto { ChosenUpto (T.Source.means source.now) windows (place_of (T.Source.means source.now) places l) }
+    requires turn { (r : ℕ) → Turns (T.Source.means source.now) (place_of (T.Source.means source.now) places l) r → w < r }
+    requires closed { w ≡ 0 → Closes T.Span.Span.kind (chosen (T.Source.means source.now) windows (place_of (T.Source.means source.now) places l)) matrix.old }
+    ensures goes { MatchOption result (RuledOut T.Span.Span.kind (T.Source.means source.now) windows (place_of (T.Source.means source.now) places l) w)
+        (λ us. GoesOn T.Span.Span.kind (T.Source.means source.now) windows (place_of (T.Source.means source.now) places l) w us (place_of (T.Source.means source.now) places (suc l)) matrix.new) }
     ensures rest { Rest (T.Source.means source.now).points matrix.old matrix.new }
 {
-    let place = places[l];
-    if place >= source.conditions() {
+    let Some(place) = places[l] else {
         return Some(windows);
-    }
+    };
     let mut chosen = windows;
     chosen[place] = w as u8;
-    match close(&Chosen::over(source, chosen, place + 1), matrix, links) {
-        None => Some(chosen),
-        Some(_) => None,
-    }
+    close(
+        &Chosen::over(source, chosen, place + 1),
+        matrix,
+        links,
+    )
+    .is_none()
+    .then_some(chosen)
 }

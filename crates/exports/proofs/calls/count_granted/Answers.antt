@@ -1,10 +1,8 @@
-use Rattle.std.proofs.Common.{◌≡◌, length, refl, arith}
-use Rattle.exports.proofs.Answering.{ok_grantable, err_not, one_more, no_more}
+-- A call is granted where the network can be granted, so all are or none is. Assumes nothing.
+use Rattle.std.proofs.Common.{length, arith}
+use Rattle.exports.proofs.Answering.{answered, one_more, no_more}
 use Rattle.exports.proofs.calls.count_granted.Goals as goal
-use Rattle.exports.proofs.calls.count_granted.Goals.{in-Ok, in-Err}
-
-pub loop-i-init : goal.loop-i-init
-loop-i-init g c = (omega arith, record { all = λ h. refl; none = λ h. refl })
+use Rattle.exports.proofs.calls.count_granted.Goals.{then-is_ok, else-is_ok}
 
 pub loop-i-preserved : goal.loop-i-preserved
 loop-i-preserved g c =
@@ -13,24 +11,13 @@ loop-i-preserved g c =
     let m = length c.args.memory.now in
     let n = length c.args.cycle.now in
     let inv = c.loop-i.invariant in
-    elim c.match-tighten.branch [
-      | in-Ok w ↦
-          simp w.granted-is (
-            omega arith,
-            one_more K N m n c.loop-i._i c.loop-i.granted inv.1
-                (ok_grantable K N c.loop-i.memory c.tighten.new.matrix c.loop-i.cycle c.tighten.new.cycle _ w.in-Ok.ensures.tightened m n
-                c.loop-i.auto.memory c.loop-i.auto.cycle),
-          )
-      | in-Err w ↦
-          simp w.granted-is (
-            omega arith,
-            no_more K N m n c.loop-i._i c.loop-i.granted inv.1
-                (err_not K N c.loop-i.memory c.tighten.new.matrix c.loop-i.cycle c.tighten.new.cycle _ w.in-Err.ensures.tightened m n
-                c.loop-i.auto.memory c.loop-i.auto.cycle),
-          )
+    let told = answered K N c.loop-i.memory c.tighten.new.matrix c.loop-i.cycle c.tighten.new.cycle c.tighten.result c.tighten.ensures.tightened m n
+    c.loop-i.auto.memory c.loop-i.auto.cycle in
+    elim c.if-is_ok.branch [
+      | then-is_ok w ↦
+          simp w.granted-is
+          (omega arith, one_more K N m n c.loop-i._i c.loop-i.granted inv.1 (rw (← c.is_ok.ensures.value, w.if-is_ok.true) at told))
+      | else-is_ok w ↦
+          simp w.granted-is
+          (omega arith, no_more K N m n c.loop-i._i c.loop-i.granted inv.1 (rw (← c.is_ok.ensures.value, w.if-is_ok.false) at told))
     ]
-
-pub returns : goal.returns
-returns g c =
-    let e : c.loop-i._i ≡ c.args.times = omega arith in
-    rw e at c.loop-i.invariant.1

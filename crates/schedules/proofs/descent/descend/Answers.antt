@@ -1,50 +1,61 @@
 -- What is chosen with the window goes on, or rules the window out. Assumes nothing.
-use Rattle.std.proofs.Common.{◌*◌, ◌<◌, length, get_or, sym, refl, ap, subst, arith}
+use Rattle.std.proofs.Common.{◌≡◌, ℕ, ◌+◌, ◌<◌, ◌≤◌, length, set, Some, None, Option, unwrap_or, suc, sym, refl, ap, subst, arith}
 use Rattle.networks.specs.Network.{Network}
 use Rattle.networks.specs.Hull.{hulls}
 use Rattle.networks.specs.Plan.{HasPlan}
 use Rattle.networks.specs.Legal.{Legal}
+use Rattle.networks.specs.Selection.{chosen}
 use Rattle.distances.specs.Closing.{Closes}
-use Rattle.distances.specs.Matrix.{Rest}
-use Rattle.schedules.proofs.Descending.{window_there, legal_with, ruled_out, stays, goes_on}
+use Rattle.schedules.specs.Choosing.{place_of, GoesOn}
+use Rattle.schedules.proofs.Descending.{window_there, legal_with, ruled_out, stays, goes_on, none_then}
 use Rattle.schedules.proofs.descent.descend.Goals as goal
 
-pub returns-then-place-conditions : goal.returns-then-place-conditions
-returns-then-place-conditions g c = record {
-  goes = stays _ _ c.requires.places.0 _ c.requires.places.1 _ _ c.requires.upto c.requires.turn _ c.requires.closed (omega arith);
-  rest = refl;
-}
+past_all : (o : Option ℕ) (n : ℕ) → ((x : ℕ) → o ≡ Some x → ⊥) → n ≤ unwrap_or o n
+past_all None n none = omega arith
+past_all (Some x) n none = absurd (none x refl)
+
+pub returns-in_default-clause-goes : goal.returns-in_default-clause-goes
+returns-in_default-clause-goes g c =
+    let N = g.T.Source.means c.args.source.now in
+    stays N (place_of N c.args.places) c.requires.places.0.in_order _ c.requires.places.1 _ _ c.requires.upto c.requires.turn _ c.requires.closed
+    (past_all _ (length N.conditions) c.in_default.not-Some)
 
 pub overflow_cast-chosen : goal.overflow_cast-chosen
 overflow_cast-chosen g c =
     let N = g.T.Source.means c.args.source.now in
-    let here : get_or c.args.places c.args.l 0 < length N.conditions = omega arith in
-    let there = window_there N _ _ _ c.requires.upto c.requires.turn here in
-    omega (arith, (c.requires.legal.each_condition _ here).few_windows)
+    let P = place_of N c.args.places c.args.l in
+    let is : P ≡ c.in-Some.place = ap (λ (o : Option ℕ). unwrap_or o (length N.conditions)) c.in-Some.is in
+    let here : P < length N.conditions = omega (arith, is, c.requires.places.0.there c.args.l c.in-Some.place c.in-Some.is) in
+    omega (arith, window_there N _ _ _ c.requires.upto c.requires.turn here, (c.requires.legal.each_condition P here).few_windows)
 
-pub close-requires : goal.close-requires
-close-requires g c =
+pub close-requires-clause-legal : goal.close-requires-clause-legal
+close-requires-clause-legal g c =
     let K = g.T.Span.Span.kind in
-    let legal = legal_with _ _ _ _ c.requires.upto c.requires.turn (omega arith) g.met.T.Span.Span.lawful c.requires.legal in
-    let both = ap (λ (M : Network g.row.T-Span.Denot). M.points * M.points) c.over.ensures in
-    record { legal = subst (Legal K) (sym c.over.ensures) legal; room = (omega arith, omega arith) }
+    let N = g.T.Source.means c.args.source.now in
+    let P = place_of N c.args.places c.args.l in
+    let is : P ≡ c.in-Some.place = ap (λ (o : Option ℕ). unwrap_or o (length N.conditions)) c.in-Some.is in
+    let here : P < length N.conditions = omega (arith, is, c.requires.places.0.there c.args.l c.in-Some.place c.in-Some.is) in
+    subst (Legal K) (sym c.over.ensures)
+    (subst (λ (i : ℕ). Legal K (chosen N (set c.args.windows i c.args.w) (i + 1))) is
+    (legal_with N _ _ _ c.requires.upto c.requires.turn here g.met.T.Span.Span.lawful c.requires.legal))
 
-pub returns-in-None : goal.returns-in-None
-returns-in-None g c =
+pub returns-clause-goes : goal.returns-clause-goes
+returns-clause-goes g c =
     let K = g.T.Span.Span.kind in
-    let closes = subst (λ (M : Network g.row.T-Span.Denot). Closes K M c.close.new.matrix) c.over.ensures c.in-None.ensures.ends in
-    record {
-      goes = goes_on _ _ c.requires.places.0 _ c.requires.places.1 _ _ c.requires.upto c.requires.turn _ (omega arith) closes;
-      rest = subst (λ (M : Network g.row.T-Span.Denot). Rest M.points c.args.matrix.now c.close.new.matrix)
-          c.over.ensures c.close.ensures.rest;
-    }
-
-pub returns-in-Some : goal.returns-in-Some
-returns-in-Some g c =
-    let K = g.T.Span.Span.kind in
-    let none = subst (λ (M : Network g.row.T-Span.Denot). HasPlan K (hulls M) → ⊥) c.over.ensures c.in-Some.ensures.ends.no_plan in
-    record {
-      goes = ruled_out _ _ _ _ c.requires.upto c.requires.turn (omega arith) g.met.T.Span.Span.lawful c.requires.legal none;
-      rest = subst (λ (M : Network g.row.T-Span.Denot). Rest M.points c.args.matrix.now c.close.new.matrix)
-          c.over.ensures c.close.ensures.rest;
-    }
+    let N = g.T.Source.means c.args.source.now in
+    let P = place_of N c.args.places c.args.l in
+    let next = place_of N c.args.places (suc c.args.l) in
+    let ws = c.args.windows in
+    let w = c.args.w in
+    let matrix = c.close.new.matrix in
+    let is : P ≡ c.in-Some.place = ap (λ (o : Option ℕ). unwrap_or o (length N.conditions)) c.in-Some.is in
+    let here : P < length N.conditions = omega (arith, is, c.requires.places.0.there c.args.l c.in-Some.place c.in-Some.is) in
+    none_then (λ us. GoesOn K N ws P w us next matrix) c.close.result (set ws c.in-Some.place w) c.is_none.result c.then_some.result
+    c.close.ensures.ends c.is_none.ensures c.then_some.ensures
+    (λ closes. subst (λ (i : ℕ). GoesOn K N ws P w (set ws i w) next matrix) is
+    (goes_on N (place_of N c.args.places) c.requires.places.0.in_order _ c.requires.places.1 _ _ c.requires.upto c.requires.turn _ here
+    (subst (λ (i : ℕ). Closes K (chosen N (set ws i w) (i + 1)) matrix) (sym is)
+    (subst (λ (M : Network g.row.T-Span.Denot). Closes K M matrix) c.over.ensures closes))))
+    (λ e cannot. ruled_out N _ _ _ c.requires.upto c.requires.turn here g.met.T.Span.Span.lawful c.requires.legal
+    (subst (λ (i : ℕ). HasPlan K (hulls (chosen N (set ws i w) (i + 1))) → ⊥) (sym is)
+    (subst (λ (M : Network g.row.T-Span.Denot). HasPlan K (hulls M) → ⊥) c.over.ensures cannot.no_plan)))
