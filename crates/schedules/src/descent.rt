@@ -38,11 +38,7 @@ pub(crate) fn descend<T: Source>(
     };
     let mut chosen = windows;
     chosen[place] = w as u8;
-    close(
-        &Chosen::over(source, chosen, place + 1),
-        matrix,
-        links,
-    )
-    .is_none()
-    .then_some(chosen)
+    close(&Chosen::over(source, chosen, place + 1), matrix, links)
+        .is_none()
+        .then_some(chosen)
 }

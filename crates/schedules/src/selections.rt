@@ -1,6 +1,6 @@
 // The first selection that has a plan, by nested loops over the windows of the choice conditions. Assumes a legal network, memory that
 // suffices and a matrix that is closed for the hulls, as each requires.
-ghost use Rattle.std.specs.Prelude.{◌≡◌, ℕ, ◌*◌, ◌≤◌, length, MatchOption};
+ghost use Rattle.std.specs.Prelude.{◌≡◌, ℕ, ◌*◌, ◌≤◌, length, MatchOption, slice_index};
 ghost use Rattle.networks.specs.Hull.{hulls};
 ghost use Rattle.networks.specs.Legal.{Legal};
 ghost use Rattle.networks.specs.Plan.{HasPlan};
@@ -14,9 +14,17 @@ use distances::inner::Link;
 use networks::Source;
 use spans::Span;
 
+// The first window of each condition.
+fn first_windows() -> [u8; 64]
+    ensures long { length result ≡ 64 }
+    ensures zeros { (k : ℕ) → slice_index result k ≡ 0 }
+{
+    [0u8; 64]
+}
+
 // Each level chooses a window at the place of one choice condition, closes the matrix for what is chosen so far with the hulls of the
 // rest, and passes over all that goes on from it where that admits no plan. Levels past the last choice condition have one turn.
-// Kept as six loops, with windows in fixed memory: a rule of the project, no recursion and no heap.
+// Kept as six loops left by a label, with windows in fixed memory: a rule of the project, no recursion and no heap.
 pub(crate) fn first_selection<T: Source>(
     source: &T,
     places: [Option<usize>; 6],
@@ -31,15 +39,14 @@ pub(crate) fn first_selection<T: Source>(
         (λ us. FoundFirst T.Span.Span.kind (T.Source.means source.now) us matrix.new) }
     ensures rest { Rest (T.Source.means source.now).points matrix.old matrix.new }
 {
-    let start = [0u8; 64];
-    for a in 0..turns(source, places[0]) {
+    let mut found = None;
+    let start = first_windows();
+    'selections: for a in 0..turns(source, places[0]) {
         if let Some(one) = descend(source, places, 0, a, start, matrix, links) {
             for b in 0..turns(source, places[1]) {
                 if let Some(two) = descend(source, places, 1, b, one, matrix, links) {
                     for c in 0..turns(source, places[2]) {
-                        if let Some(three) = descend(
-                            source, places, 2, c, two, matrix, links,
-                        ) {
+                        if let Some(three) = descend(source, places, 2, c, two, matrix, links) {
                             for d in 0..turns(source, places[3]) {
                                 if let Some(four) = descend(
                                     source, places, 3, d, three, matrix, links,
@@ -52,7 +59,8 @@ pub(crate) fn first_selection<T: Source>(
                                                 if let Some(six) = descend(
                                                     source, places, 5, f, five, matrix, links,
                                                 ) {
-                                                    return Some(six);
+                                                    found = Some(six);
+                                                    break 'selections;
                                                 }
                                             }
                                         }
@@ -65,5 +73,5 @@ pub(crate) fn first_selection<T: Source>(
             }
         }
     }
-    None
+    found
 }

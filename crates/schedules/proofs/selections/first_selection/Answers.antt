@@ -1,58 +1,56 @@
 -- At each level one window is tried: it is ruled out at once, or by all that goes on from it, or the last level finds a selection. Assumes nothing.
-use Rattle.std.proofs.Common.{◌≡◌, ℕ, get_or, replicate, refl, ◌∙◌, arith}
-use native.Mathlib.Decide.{dec_lt}
-use Rattle.std.proofs.lemmas.List.{length-replicate, get_or-replicate, get_or_past}
+use Rattle.std.proofs.Common.{refl, ◌∙◌, arith}
 use Rattle.schedules.specs.Choosing.{place_of}
 use Rattle.schedules.proofs.Levels.{turned, turn_there, turning_begins, turning_down, turning_past, turning_through, turning_ends, turning_found}
 use Rattle.schedules.proofs.selections.first_selection.Goals as goal
 use Rattle.schedules.proofs.selections.first_selection.Goals.{in-Some+else-loop-b-test, in_default, in-Some-descend+else-loop-c-test, in_default-descend, in-Some-descend-2+else-loop-d-test, in_default-descend-2, in-Some-descend-3+else-loop-e-test, in_default-descend-3, in-Some-descend-4+else-loop-f-test, in_default-descend-4}
 
-zeros : (k : ℕ) → get_or (replicate {A = ℕ} 64 0) k 0 ≡ 0
-zeros k = elim (dec_lt k 64) [
-  | yes l ↦ get_or-replicate 64 k 0 0 l
-  | no l ↦ get_or_past (replicate 64 0) k 0 (omega (arith, length-replicate {A = ℕ} 64 0))
-]
-
-pub loop-a-init : goal.loop-a-init
-loop-a-init g c = (
-  turning_begins (g.T.Source.means c.args.source.now) (place_of (g.T.Source.means c.args.source.now) c.args.places) c.requires.places.in_order (replicate 64 0) c.args.matrix.now
-      (omega (arith, c.requires.legal.few_conditions, length-replicate {A = ℕ} 64 0)) zeros c.requires.closed,
+pub selections-init : goal.selections-init
+selections-init g c = (
+  refl,
+  turning_begins (g.T.Source.means c.args.source.now) (place_of (g.T.Source.means c.args.source.now) c.args.places) c.requires.places.in_order c.first_windows-start.result c.args.matrix.now
+      (omega (arith, c.requires.legal.few_conditions, c.first_windows-start.ensures.long)) c.first_windows-start.ensures.zeros c.requires.closed,
   refl,
 )
 
 pub loop-b-init : goal.loop-b-init
 loop-b-init g c = (
-  turning_down (g.T.Source.means c.args.source.now) (place_of (g.T.Source.means c.args.source.now) c.args.places) c.requires.places.in_order 0 _ (omega arith) _ _ _ _ c.loop-a.invariant.0 c.in-Some.ensures.goes,
+  c.selections.invariant.0,
+  turning_down (g.T.Source.means c.args.source.now) (place_of (g.T.Source.means c.args.source.now) c.args.places) c.requires.places.in_order 0 _ (omega arith) _ _ _ _ c.selections.invariant.1 c.in-Some.ensures.goes,
   refl,
 )
 
 pub loop-c-init : goal.loop-c-init
 loop-c-init g c = (
-  turning_down (g.T.Source.means c.args.source.now) (place_of (g.T.Source.means c.args.source.now) c.args.places) c.requires.places.in_order 1 _ (omega arith) _ _ _ _ c.loop-b.invariant.0 c.in-Some-descend.ensures.goes,
+  c.loop-b.invariant.0,
+  turning_down (g.T.Source.means c.args.source.now) (place_of (g.T.Source.means c.args.source.now) c.args.places) c.requires.places.in_order 1 _ (omega arith) _ _ _ _ c.loop-b.invariant.1 c.in-Some-descend.ensures.goes,
   refl,
 )
 
 pub loop-d-init : goal.loop-d-init
 loop-d-init g c = (
-  turning_down (g.T.Source.means c.args.source.now) (place_of (g.T.Source.means c.args.source.now) c.args.places) c.requires.places.in_order 2 _ (omega arith) _ _ _ _ c.loop-c.invariant.0 c.in-Some-descend-2.ensures.goes,
+  c.loop-c.invariant.0,
+  turning_down (g.T.Source.means c.args.source.now) (place_of (g.T.Source.means c.args.source.now) c.args.places) c.requires.places.in_order 2 _ (omega arith) _ _ _ _ c.loop-c.invariant.1 c.in-Some-descend-2.ensures.goes,
   refl,
 )
 
 pub loop-e-init : goal.loop-e-init
 loop-e-init g c = (
-  turning_down (g.T.Source.means c.args.source.now) (place_of (g.T.Source.means c.args.source.now) c.args.places) c.requires.places.in_order 3 _ (omega arith) _ _ _ _ c.loop-d.invariant.0 c.in-Some-descend-3.ensures.goes,
+  c.loop-d.invariant.0,
+  turning_down (g.T.Source.means c.args.source.now) (place_of (g.T.Source.means c.args.source.now) c.args.places) c.requires.places.in_order 3 _ (omega arith) _ _ _ _ c.loop-d.invariant.1 c.in-Some-descend-3.ensures.goes,
   refl,
 )
 
 pub loop-f-init : goal.loop-f-init
 loop-f-init g c = (
-  turning_down (g.T.Source.means c.args.source.now) (place_of (g.T.Source.means c.args.source.now) c.args.places) c.requires.places.in_order 4 _ (omega arith) _ _ _ _ c.loop-e.invariant.0 c.in-Some-descend-4.ensures.goes,
+  c.loop-e.invariant.0,
+  turning_down (g.T.Source.means c.args.source.now) (place_of (g.T.Source.means c.args.source.now) c.args.places) c.requires.places.in_order 4 _ (omega arith) _ _ _ _ c.loop-e.invariant.1 c.in-Some-descend-4.ensures.goes,
   refl,
 )
 
 pub descend-requires-clause-turn : goal.descend-requires-clause-turn
 descend-requires-clause-turn g c =
-    turn_there _ _ _ _ (turned (g.T.Source.means c.args.source.now) c.args.places c.requires.places 0 _ c.turns-a-end.ensures) c.loop-a-test.true
+    turn_there _ _ _ _ (turned (g.T.Source.means c.args.source.now) c.args.places c.requires.places 0 _ c.turns-a-end.ensures) c.selections-test.true
 
 pub descend-requires-in-loop-b-clause-turn : goal.descend-requires-in-loop-b-clause-turn
 descend-requires-in-loop-b-clause-turn g c =
@@ -73,23 +71,26 @@ descend-requires-in-loop-f-clause-turn g c = turn_there _ _ _ _ (turned (g.T.Sou
 
 pub loop-f-preserved : goal.loop-f-preserved
 loop-f-preserved g c = (
-  turning_past (g.T.Source.means c.args.source.now) (place_of (g.T.Source.means c.args.source.now) c.args.places) c.requires.places.in_order 5 _ _ _ _ c.loop-f.invariant.0 c.in_default-descend-5.ensures.goes,
-  c.descend-in-loop-f.ensures.rest ∙ c.loop-f.invariant.1,
+  c.loop-f.invariant.0,
+  turning_past (g.T.Source.means c.args.source.now) (place_of (g.T.Source.means c.args.source.now) c.args.places) c.requires.places.in_order 5 _ _ _ _ c.loop-f.invariant.1 c.in_default-descend-5.ensures.goes,
+  c.descend-in-loop-f.ensures.rest ∙ c.loop-f.invariant.2,
 )
 
 pub loop-e-preserved : goal.loop-e-preserved
 loop-e-preserved g c =
     elim c.match-descend-5.branch [
       | in-Some-descend-4+else-loop-f-test w ↦
-          simp w.matrix-is (
-            turning_through (g.T.Source.means c.args.source.now) (place_of (g.T.Source.means c.args.source.now) c.args.places) c.requires.places.in_order 4 _ _ _ (omega arith) _ _ _ _ _ _ c.loop-e.invariant.0
-                w.in-Some-descend-4.ensures.goes (turned (g.T.Source.means c.args.source.now) c.args.places c.requires.places 5 _ w.turns-f-end.ensures) w.loop-f-test.false w.loop-f.invariant.0,
-            w.loop-f.invariant.1 ∙ c.descend-in-loop-e.ensures.rest ∙ c.loop-e.invariant.1,
+          simp (w.found-is, w.matrix-is) (
+            w.loop-f.invariant.0,
+            turning_through (g.T.Source.means c.args.source.now) (place_of (g.T.Source.means c.args.source.now) c.args.places) c.requires.places.in_order 4 _ _ _ (omega arith) _ _ _ _ _ _ c.loop-e.invariant.1
+                w.in-Some-descend-4.ensures.goes (turned (g.T.Source.means c.args.source.now) c.args.places c.requires.places 5 _ w.turns-f-end.ensures) w.loop-f-test.false w.loop-f.invariant.1,
+            w.loop-f.invariant.2 ∙ c.descend-in-loop-e.ensures.rest ∙ c.loop-e.invariant.2,
           )
       | in_default-descend-4 w ↦
-          simp w.matrix-is (
-            turning_past (g.T.Source.means c.args.source.now) (place_of (g.T.Source.means c.args.source.now) c.args.places) c.requires.places.in_order 4 _ _ _ _ c.loop-e.invariant.0 w.in_default-descend-4.ensures.goes,
-            c.descend-in-loop-e.ensures.rest ∙ c.loop-e.invariant.1,
+          simp (w.found-is, w.matrix-is) (
+            c.loop-e.invariant.0,
+            turning_past (g.T.Source.means c.args.source.now) (place_of (g.T.Source.means c.args.source.now) c.args.places) c.requires.places.in_order 4 _ _ _ _ c.loop-e.invariant.1 w.in_default-descend-4.ensures.goes,
+            c.descend-in-loop-e.ensures.rest ∙ c.loop-e.invariant.2,
           )
     ]
 
@@ -97,15 +98,17 @@ pub loop-d-preserved : goal.loop-d-preserved
 loop-d-preserved g c =
     elim c.match-descend-4.branch [
       | in-Some-descend-3+else-loop-e-test w ↦
-          simp w.matrix-is (
-            turning_through (g.T.Source.means c.args.source.now) (place_of (g.T.Source.means c.args.source.now) c.args.places) c.requires.places.in_order 3 _ _ _ (omega arith) _ _ _ _ _ _ c.loop-d.invariant.0
-                w.in-Some-descend-3.ensures.goes (turned (g.T.Source.means c.args.source.now) c.args.places c.requires.places 4 _ w.turns-e-end.ensures) w.loop-e-test.false w.loop-e.invariant.0,
-            w.loop-e.invariant.1 ∙ c.descend-in-loop-d.ensures.rest ∙ c.loop-d.invariant.1,
+          simp (w.found-is, w.matrix-is) (
+            w.loop-e.invariant.0,
+            turning_through (g.T.Source.means c.args.source.now) (place_of (g.T.Source.means c.args.source.now) c.args.places) c.requires.places.in_order 3 _ _ _ (omega arith) _ _ _ _ _ _ c.loop-d.invariant.1
+                w.in-Some-descend-3.ensures.goes (turned (g.T.Source.means c.args.source.now) c.args.places c.requires.places 4 _ w.turns-e-end.ensures) w.loop-e-test.false w.loop-e.invariant.1,
+            w.loop-e.invariant.2 ∙ c.descend-in-loop-d.ensures.rest ∙ c.loop-d.invariant.2,
           )
       | in_default-descend-3 w ↦
-          simp w.matrix-is (
-            turning_past (g.T.Source.means c.args.source.now) (place_of (g.T.Source.means c.args.source.now) c.args.places) c.requires.places.in_order 3 _ _ _ _ c.loop-d.invariant.0 w.in_default-descend-3.ensures.goes,
-            c.descend-in-loop-d.ensures.rest ∙ c.loop-d.invariant.1,
+          simp (w.found-is, w.matrix-is) (
+            c.loop-d.invariant.0,
+            turning_past (g.T.Source.means c.args.source.now) (place_of (g.T.Source.means c.args.source.now) c.args.places) c.requires.places.in_order 3 _ _ _ _ c.loop-d.invariant.1 w.in_default-descend-3.ensures.goes,
+            c.descend-in-loop-d.ensures.rest ∙ c.loop-d.invariant.2,
           )
     ]
 
@@ -113,15 +116,17 @@ pub loop-c-preserved : goal.loop-c-preserved
 loop-c-preserved g c =
     elim c.match-descend-3.branch [
       | in-Some-descend-2+else-loop-d-test w ↦
-          simp w.matrix-is (
-            turning_through (g.T.Source.means c.args.source.now) (place_of (g.T.Source.means c.args.source.now) c.args.places) c.requires.places.in_order 2 _ _ _ (omega arith) _ _ _ _ _ _ c.loop-c.invariant.0
-                w.in-Some-descend-2.ensures.goes (turned (g.T.Source.means c.args.source.now) c.args.places c.requires.places 3 _ w.turns-d-end.ensures) w.loop-d-test.false w.loop-d.invariant.0,
-            w.loop-d.invariant.1 ∙ c.descend-in-loop-c.ensures.rest ∙ c.loop-c.invariant.1,
+          simp (w.found-is, w.matrix-is) (
+            w.loop-d.invariant.0,
+            turning_through (g.T.Source.means c.args.source.now) (place_of (g.T.Source.means c.args.source.now) c.args.places) c.requires.places.in_order 2 _ _ _ (omega arith) _ _ _ _ _ _ c.loop-c.invariant.1
+                w.in-Some-descend-2.ensures.goes (turned (g.T.Source.means c.args.source.now) c.args.places c.requires.places 3 _ w.turns-d-end.ensures) w.loop-d-test.false w.loop-d.invariant.1,
+            w.loop-d.invariant.2 ∙ c.descend-in-loop-c.ensures.rest ∙ c.loop-c.invariant.2,
           )
       | in_default-descend-2 w ↦
-          simp w.matrix-is (
-            turning_past (g.T.Source.means c.args.source.now) (place_of (g.T.Source.means c.args.source.now) c.args.places) c.requires.places.in_order 2 _ _ _ _ c.loop-c.invariant.0 w.in_default-descend-2.ensures.goes,
-            c.descend-in-loop-c.ensures.rest ∙ c.loop-c.invariant.1,
+          simp (w.found-is, w.matrix-is) (
+            c.loop-c.invariant.0,
+            turning_past (g.T.Source.means c.args.source.now) (place_of (g.T.Source.means c.args.source.now) c.args.places) c.requires.places.in_order 2 _ _ _ _ c.loop-c.invariant.1 w.in_default-descend-2.ensures.goes,
+            c.descend-in-loop-c.ensures.rest ∙ c.loop-c.invariant.2,
           )
     ]
 
@@ -129,38 +134,42 @@ pub loop-b-preserved : goal.loop-b-preserved
 loop-b-preserved g c =
     elim c.match-descend-2.branch [
       | in-Some-descend+else-loop-c-test w ↦
-          simp w.matrix-is (
-            turning_through (g.T.Source.means c.args.source.now) (place_of (g.T.Source.means c.args.source.now) c.args.places) c.requires.places.in_order 1 _ _ _ (omega arith) _ _ _ _ _ _ c.loop-b.invariant.0
-                w.in-Some-descend.ensures.goes (turned (g.T.Source.means c.args.source.now) c.args.places c.requires.places 2 _ w.turns-c-end.ensures) w.loop-c-test.false w.loop-c.invariant.0,
-            w.loop-c.invariant.1 ∙ c.descend-in-loop-b.ensures.rest ∙ c.loop-b.invariant.1,
+          simp (w.found-is, w.matrix-is) (
+            w.loop-c.invariant.0,
+            turning_through (g.T.Source.means c.args.source.now) (place_of (g.T.Source.means c.args.source.now) c.args.places) c.requires.places.in_order 1 _ _ _ (omega arith) _ _ _ _ _ _ c.loop-b.invariant.1
+                w.in-Some-descend.ensures.goes (turned (g.T.Source.means c.args.source.now) c.args.places c.requires.places 2 _ w.turns-c-end.ensures) w.loop-c-test.false w.loop-c.invariant.1,
+            w.loop-c.invariant.2 ∙ c.descend-in-loop-b.ensures.rest ∙ c.loop-b.invariant.2,
           )
       | in_default-descend w ↦
-          simp w.matrix-is (
-            turning_past (g.T.Source.means c.args.source.now) (place_of (g.T.Source.means c.args.source.now) c.args.places) c.requires.places.in_order 1 _ _ _ _ c.loop-b.invariant.0 w.in_default-descend.ensures.goes,
-            c.descend-in-loop-b.ensures.rest ∙ c.loop-b.invariant.1,
+          simp (w.found-is, w.matrix-is) (
+            c.loop-b.invariant.0,
+            turning_past (g.T.Source.means c.args.source.now) (place_of (g.T.Source.means c.args.source.now) c.args.places) c.requires.places.in_order 1 _ _ _ _ c.loop-b.invariant.1 w.in_default-descend.ensures.goes,
+            c.descend-in-loop-b.ensures.rest ∙ c.loop-b.invariant.2,
           )
     ]
 
-pub loop-a-preserved : goal.loop-a-preserved
-loop-a-preserved g c =
+pub selections-preserved : goal.selections-preserved
+selections-preserved g c =
     elim c.match-descend.branch [
       | in-Some+else-loop-b-test w ↦
-          simp w.matrix-is (
-            turning_through (g.T.Source.means c.args.source.now) (place_of (g.T.Source.means c.args.source.now) c.args.places) c.requires.places.in_order 0 _ _ _ (omega arith) _ _ _ _ _ _ c.loop-a.invariant.0
-                w.in-Some.ensures.goes (turned (g.T.Source.means c.args.source.now) c.args.places c.requires.places 1 _ w.turns-b-end.ensures) w.loop-b-test.false w.loop-b.invariant.0,
-            w.loop-b.invariant.1 ∙ c.descend.ensures.rest ∙ c.loop-a.invariant.1,
+          simp (w.found-is, w.matrix-is) (
+            w.loop-b.invariant.0,
+            turning_through (g.T.Source.means c.args.source.now) (place_of (g.T.Source.means c.args.source.now) c.args.places) c.requires.places.in_order 0 _ _ _ (omega arith) _ _ _ _ _ _ c.selections.invariant.1
+                w.in-Some.ensures.goes (turned (g.T.Source.means c.args.source.now) c.args.places c.requires.places 1 _ w.turns-b-end.ensures) w.loop-b-test.false w.loop-b.invariant.1,
+            w.loop-b.invariant.2 ∙ c.descend.ensures.rest ∙ c.selections.invariant.2,
           )
       | in_default w ↦
-          simp w.matrix-is (
-            turning_past (g.T.Source.means c.args.source.now) (place_of (g.T.Source.means c.args.source.now) c.args.places) c.requires.places.in_order 0 _ _ _ _ c.loop-a.invariant.0 w.in_default.ensures.goes,
-            c.descend.ensures.rest ∙ c.loop-a.invariant.1,
+          simp (w.found-is, w.matrix-is) (
+            c.selections.invariant.0,
+            turning_past (g.T.Source.means c.args.source.now) (place_of (g.T.Source.means c.args.source.now) c.args.places) c.requires.places.in_order 0 _ _ _ _ c.selections.invariant.1 w.in_default.ensures.goes,
+            c.descend.ensures.rest ∙ c.selections.invariant.2,
           )
     ]
 
-pub returns-clause-found : goal.returns-clause-found
-returns-clause-found g c =
-    (turning_ends (g.T.Source.means c.args.source.now) (place_of (g.T.Source.means c.args.source.now) c.args.places) c.requires.places.in_order _ _ _ _ (turned (g.T.Source.means c.args.source.now) c.args.places c.requires.places 0 _ c.turns-a-end.ensures) c.loop-a-test.false c.loop-a.invariant.0)
+pub returns-after-selections-clause-found : goal.returns-after-selections-clause-found
+returns-after-selections-clause-found g c =
+    rw c.selections.invariant.0 (turning_ends (g.T.Source.means c.args.source.now) (place_of (g.T.Source.means c.args.source.now) c.args.places) c.requires.places.in_order _ _ _ _ (turned (g.T.Source.means c.args.source.now) c.args.places c.requires.places 0 _ c.turns-a-end.ensures) c.selections-test.false c.selections.invariant.1)
 
 pub returns-in-Some-descend-5-clause-found : goal.returns-in-Some-descend-5-clause-found
 returns-in-Some-descend-5-clause-found g c =
-    turning_found (g.T.Source.means c.args.source.now) (place_of (g.T.Source.means c.args.source.now) c.args.places) c.requires.places.in_order _ _ _ _ _ c.loop-f.invariant.0 c.in-Some-descend-5.ensures.goes
+    turning_found (g.T.Source.means c.args.source.now) (place_of (g.T.Source.means c.args.source.now) c.args.places) c.requires.places.in_order _ _ _ _ _ c.loop-f.invariant.1 c.in-Some-descend-5.ensures.goes
