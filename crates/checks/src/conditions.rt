@@ -4,25 +4,26 @@ ghost use Rattle.networks.specs.Network.{condition_at};
 ghost use Rattle.networks.specs.Refusal.{condition_refusal, conditions_refusal, choices};
 ghost use Rattle.networks.specs.Faults.{refusal_in};
 
-use crate::windows::{windows_rise, windows_small};
+use crate::condition::ConditionOf;
 use networks::{Fault, MOST_WINDOWS, Source};
 
 fn check_condition<T: Source>(source: &T, points: usize, k: usize) -> Result<(), Fault>
     ensures { refusal_in result ≡ condition_refusal T.Span.Span.kind points k (condition_at (T.Source.means source.now) k) }
 {
-    let from = source.from(k);
-    let to = source.to(k);
+    let condition = ConditionOf::new(source, k);
+    let from = condition.from();
+    let to = condition.to();
     if from >= points || to >= points || from == to {
         return Err(Fault::Named(k));
     }
-    let count = source.windows(k);
+    let count = condition.windows();
     if count == 0 || count > MOST_WINDOWS {
         return Err(Fault::WindowCount(k));
     }
-    if !windows_small(source, k) {
+    if !condition.windows_small() {
         return Err(Fault::EndSize(k));
     }
-    if !windows_rise(source, k) {
+    if !condition.windows_rise() {
         return Err(Fault::WindowOrder(k));
     }
     Ok(())

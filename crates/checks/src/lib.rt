@@ -10,6 +10,7 @@ ghost use Rattle.networks.specs.Legal.{Legal, Checked};
 use networks::{Fault, Lent, MOST_CONDITIONS, Source};
 use spans::Span;
 
+mod condition;
 mod conditions;
 mod counts;
 mod memory;

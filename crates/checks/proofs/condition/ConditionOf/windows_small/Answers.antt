@@ -1,15 +1,15 @@
 use Rattle.std.proofs.Common.{rules, tests, arith, ℕ, refl, ◌&&◌}
 use Rattle.std.proofs.lemmas.Iterator.{YieldsList-from_range}
 use Rattle.std.proofs.lemmas.Iterator.Search.{all_from_yields_List}
-use Rattle.networks.specs.Network.{condition_at, window_of, open_window}
+use Rattle.networks.specs.Network.{window_of, open_window}
 use Rattle.networks.specs.Refusal.{small, all_small}
 use Rattle.checks.proofs.Walks.{all_tested, both_small}
-use Rattle.checks.proofs.windows.windows_small.Goals as goal
+use Rattle.checks.proofs.condition.ConditionOf.windows_small.Goals as goal
 
 pub returns : goal.returns
 returns g c =
     let K = g.T.Span.Span.kind in
-    let x = condition_at (g.T.Source.means c.args.source.now) c.args.k in
+    let x = c.args.self.now in
     let test = λ (w : ℕ). small K (window_of x w).low && small K (window_of x w).high in
     let n = c.windows.result in
     let by_number = all_from_yields_List test _ _ c.all.result c.all.ensures.ran (YieldsList-from_range 0 n n refl (omega arith)) (λ w b q k. search (rules, tests)) in
