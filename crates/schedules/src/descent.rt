@@ -40,7 +40,7 @@ pub(crate) fn descend<T: Source>(
     let mut chosen = windows;
     chosen[place] = w as u8;
     match close(&Chosen::over(source, chosen, place + 1), matrix, links) {
-        None => Some(chosen),
-        Some(_) => None,
+        Ok(()) => Some(chosen),
+        Err(_) => None,
     }
 }

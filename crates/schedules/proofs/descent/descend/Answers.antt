@@ -29,20 +29,20 @@ close-requires g c =
     let both = ap (λ (M : Network g.row.T-Span.Denot). M.points * M.points) c.over.ensures in
     record { legal = subst (Legal K) (sym c.over.ensures) legal; room = (omega arith, omega arith) }
 
-pub returns-in-None : goal.returns-in-None
-returns-in-None g c =
+pub returns-in-Ok : goal.returns-in-Ok
+returns-in-Ok g c =
     let K = g.T.Span.Span.kind in
-    let closes = subst (λ (M : Network g.row.T-Span.Denot). Closes K M c.close.new.matrix) c.over.ensures c.in-None.ensures.ends in
+    let closes = subst (λ (M : Network g.row.T-Span.Denot). Closes K M c.close.new.matrix) c.over.ensures c.in-Ok.ensures.ends in
     record {
       goes = goes_on _ _ c.requires.places.0 _ c.requires.places.1 _ _ c.requires.upto c.requires.turn _ (omega arith) closes;
       rest = subst (λ (M : Network g.row.T-Span.Denot). Rest M.points c.args.matrix.now c.close.new.matrix)
           c.over.ensures c.close.ensures.rest;
     }
 
-pub returns-in-Some : goal.returns-in-Some
-returns-in-Some g c =
+pub returns-in-Err : goal.returns-in-Err
+returns-in-Err g c =
     let K = g.T.Span.Span.kind in
-    let none = subst (λ (M : Network g.row.T-Span.Denot). HasPlan K (hulls M) → ⊥) c.over.ensures c.in-Some.ensures.ends.no_plan in
+    let none = subst (λ (M : Network g.row.T-Span.Denot). HasPlan K (hulls M) → ⊥) c.over.ensures c.in-Err.ensures.ends.no_plan in
     record {
       goes = ruled_out _ _ _ _ c.requires.upto c.requires.turn (omega arith) g.met.T.Span.Span.lawful c.requires.legal none;
       rest = subst (λ (M : Network g.row.T-Span.Denot). Rest M.points c.args.matrix.now c.close.new.matrix)
