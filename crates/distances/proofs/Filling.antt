@@ -3,34 +3,18 @@ use Rattle.std.proofs.Common.{◌≡◌, ℕ, ◌+◌, ◌*◌, ◌<◌, ◌≤�
 use native.Mathlib.Decide.{dec_lt, ℕ_discrete}
 use Rattle.std.proofs.lemmas.Bool.{ne_eqb}
 use Rattle.spans.specs.Kind.{Kind}
-use Rattle.networks.specs.declared.window.Window.{Window}
-use Rattle.networks.specs.Network.{Condition, Network, condition_at, window_of}
-use Rattle.networks.specs.Hull.{hulls}
-use Rattle.layers.proofs.Hulls.{hull_at}
+use Rattle.networks.specs.Network.{Network}
 use Rattle.distances.specs.declared.edges.Edge.{Edge}
 use Rattle.distances.specs.declared.edges.Edge.TheVariants.{Forward, Back}
 use Rattle.networks.specs.Legal.{Legal}
 use Rattle.distances.specs.Begun.{begun, Filled}
 use Rattle.distances.specs.Edges.{Coded, coded, weight, only_at, condition_of, leaves, reaches, lesser, least_edge}
-use Rattle.distances.specs.Graph.{hull_of}
 use Rattle.distances.specs.Matrix.{table, linked, Rest}
 use Rattle.distances.specs.Memory.{put_first}
 use Rattle.distances.specs.declared.link.Link.{Link}
 use Rattle.distances.specs.declared.link.Link.TheVariants.{Direct}
 use Rattle.distances.specs.Table.{Table, is_direct, beats}
 use Rattle.distances.proofs.Matrices.{square_read, square_here, square_elsewhere, Written, written_here, written_elsewhere, written_rest, blank_square}
-
--- ---- the ends of the hull's only window, where M has the hulls of N
-module _ {S : Type 0} (K : Kind S) (N M : Network S) (k : ℕ) (e : M ≡ hulls N) where
-  hull_window : window_of (condition_at M k) 0 ≡ hull_of K N k
-  hull_window =
-      ap (λ (m : Network S). window_of (condition_at m k) 0) e ∙ ap (λ (c : Condition S). window_of c 0) (hull_at N k)
-
-  pub high_end : (window_of (condition_at M k) 0).high ≡ (hull_of K N k).high
-  high_end = ap (λ (w : Window S). w.high) hull_window
-
-  pub low_end : (window_of (condition_at M k) 0).low ≡ (hull_of K N k).low
-  low_end = ap (λ (w : Window S). w.low) hull_window
 
 -- ---- an edge of a condition leads between points that are there
 pub edge_there : {S : Type 0} {K : Kind S} (N : Network S) (e : Edge) → Legal K N → condition_of e < length N.conditions

@@ -133,9 +133,6 @@ module _ {A : Type 0} {old goal : ℕ → ℕ → A} where
   pub row_none : (i : ℕ) → RowUpto old old goal i 0
   row_none i = record { done = λ q h. absurd (omega arith); ahead = λ q h. refl; others = λ p q ne. refl }
 
-  pub rows_none : RowsUpto old old goal 0
-  rows_none = record { done = λ p q h. absurd (omega arith); ahead = λ p q h. refl }
-
 module _ {A : Type 0} {old new goal : ℕ → ℕ → A} where
   -- an entry that is there already
   pub row_pass : {i j : ℕ} → RowUpto old new goal i j → old i j ≡ goal i j → RowUpto old new goal i (j + 1)

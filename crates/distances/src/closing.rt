@@ -1,6 +1,6 @@
 // Closing: the matrix of a source's hulls, from its edges on and stage by stage, up to the end or to the first cycle below zero.
 // For our own crates: the source's network has to be legal and the lent memory to suffice, which the checks show.
-ghost use Rattle.std.specs.Prelude.{◌≡◌, ◌*◌, ◌≤◌, length, MatchOption};
+ghost use Rattle.std.specs.Prelude.{◌≡◌, ◌*◌, ◌≤◌, length, MatchResult};
 ghost use Rattle.networks.specs.Legal.{Legal};
 ghost use Rattle.distances.specs.Matrix.{linked, Rest};
 ghost use Rattle.distances.specs.Closing.{Closes, CannotClose};
@@ -13,16 +13,16 @@ use crate::route::Ways;
 use networks::Source;
 use spans::Span;
 
-// Leaves the least totals in the matrix, or answers the edge that closes a way below zero; the links then give that way,
+// Leaves the least totals in the matrix, or refuses with the edge that closes a way below zero; the links then give that way,
 // and the matrix is of no use. What stood in the memory does not matter; past n×n the links are free.
 pub fn close<T: Source>(
     source: &T,
     matrix: &mut [Option<T::Span>],
     links: &mut [Link],
-) -> Option<ClosingEdge>
+) -> Result<(), ClosingEdge>
     requires legal { Legal T.Span.Span.kind (T.Source.means source.now) }
     requires room { ((T.Source.means source.now).points * (T.Source.means source.now).points ≤ length matrix.old) × ((T.Source.means source.now).points * (T.Source.means source.now).points ≤ length links.old) }
-    ensures ends { MatchOption result (Closes T.Span.Span.kind (T.Source.means source.now) matrix.new)
+    ensures ends { MatchResult result (λ u. Closes T.Span.Span.kind (T.Source.means source.now) matrix.new)
         (λ e. CannotClose T.Span.Span.kind (T.Source.means source.now) (linked (T.Source.means source.now).points links.new)
         e.first e.last e.code) }
     ensures rest { Rest (T.Source.means source.now).points matrix.old matrix.new }
@@ -31,9 +31,9 @@ pub fn close<T: Source>(
     fill_edges(source, n, matrix, links);
     for k in 0..n {
         if let Some(edge) = find_closing(matrix, &Ways { n, links }, k) {
-            return Some(edge);
+            return Err(edge);
         }
         relax_stage(matrix, links, n, k);
     }
-    None
+    Ok(())
 }

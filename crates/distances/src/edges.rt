@@ -64,6 +64,7 @@ impl Edge {
 }
 
 // The edge, where it is the least so far.
+// Kept: n goes beside the source whose points it counts, here and below; without it each clause would name the source's points instead.
 fn put_edge<T: Source>(
     source: &T,
     edge: Edge,

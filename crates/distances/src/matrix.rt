@@ -31,8 +31,8 @@ fn is_better<S: Span>(y: Option<S>, x: Option<S>) -> bool
 }
 
 // Writes `way` with its link where the entry is missing or greater.
-// Kept as two slices, here and where both are filled and relaxed: a struct that lends both as `&mut` would have each contract say that n
-// and both references stay, three facts for the two that it saves.
+// Kept as two slices with n, here and where both are filled and relaxed: the matrix is the caller's memory, and a struct that lends both as
+// `&mut` would have each contract say that n and both references stay, three facts for the two that it saves.
 pub(crate) fn improve<S: Span>(
     matrix: &mut [Option<S>],
     links: &mut [Link],

@@ -48,6 +48,7 @@ impl Ways<'_> {
 
     // Writes the codes of the way to the front of `out`, and answers how many edges it has. A way over a point is the way to that
     // point and then the way from it; both rank lower.
+    // Kept: a number says how many codes were written, since the memory for them is lent.
     pub(crate) fn unfold(&self, way: Way, out: &mut [u16]) -> usize
         requires { Unfoldable self.now.n (linked self.now.n self.now.links.now) way.from way.to (length out.old) }
         ensures within { result ≤ length out.old }

@@ -27,8 +27,8 @@ fn tighten_checked<T: Source>(
 {
     let mut links = [Link::Direct(0); MOST_ENTRIES];
     match close(source, matrix, &mut links) {
-        None => Ok(()),
-        Some(edge) => {
+        Ok(()) => Ok(()),
+        Err(edge) => {
             let ways = Ways {
                 n: source.points(),
                 links: &links,

@@ -1,6 +1,5 @@
 -- One window more is chosen, at place l of the choice conditions: that goes on, or is ruled out. Assumes nothing.
-use Rattle.std.proofs.Common.{◌≡◌, ℕ, suc, ◌+◌, ◌<◌, ◌≤◌, List, length, get_or, set, Bool, Some, None, Option, MatchOption, true, false, not, is_some, sym, refl, ◌∙◌, subst, arith, length-set, get_or-set_other, get_or-set_same}
-use Rattle.std.specs.Bool.{then_some}
+use Rattle.std.proofs.Common.{◌≡◌, ℕ, suc, ◌+◌, ◌<◌, ◌≤◌, List, length, get_or, set, Some, None, Option, unwrap_or, sym, ap, refl, ◌∙◌, subst, arith, length-set, get_or-set_other, get_or-set_same}
 use Rattle.spans.specs.Kind.{Kind, Laws}
 use Rattle.networks.specs.Network.{Network, condition_at}
 use Rattle.networks.specs.Hull.{hulls}
@@ -8,7 +7,7 @@ use Rattle.networks.specs.Plan.{HasPlan}
 use Rattle.networks.specs.Selection.{chosen}
 use Rattle.networks.specs.Legal.{Legal}
 use Rattle.distances.specs.Closing.{Closes}
-use Rattle.schedules.specs.Choosing.{Places, Turns, ChosenUpto, Lone, NumbersThere, RuledOut, GoesOn}
+use Rattle.schedules.specs.Choosing.{place_of, Places, ChoicePlaces, Turns, ChosenUpto, Lone, NumbersThere, RuledOut, GoesOn}
 use Rattle.schedules.proofs.Selecting.{chosen_skips, legal_chosen}
 use Rattle.schedules.proofs.Firsts.{agrees_set, agrees_more, numbers_there_set, numbers_there_skips, none_with_pruned}
 
@@ -85,10 +84,10 @@ module _ {S : Type 0} {K : Kind S} (N : Network S) (places : ℕ → ℕ) (right
         closes = subst (λ (M : Network S). Closes K M matrix) (sym same) closes;
       }
 
--- what `is_none().then_some(x)` answers
-pub none_then : {A B P R : Type 0} {Q : A → Type 0} (T : B → Type 0) (o : Option A) (x : B) (b : Bool) (r : Option B) → MatchOption o P Q
-    → is_some o ≡ not b → r ≡ then_some b x → (P → T x) → ((a : A) → Q a → R) → MatchOption r R T
-none_then {A} {B} {P} {R} {Q} T None x true r h e f good bad = subst (λ (q : Option B). MatchOption q R T) (sym f) (good h)
-none_then {A} {B} {P} {R} {Q} T None x false r h e f good bad = absurd (grind arith)
-none_then {A} {B} {P} {R} {Q} T (Some a) x true r h e f good bad = absurd (grind arith)
-none_then {A} {B} {P} {R} {Q} T (Some a) x false r h e f good bad = subst (λ (q : Option B). MatchOption q R T) (sym f) (bad a h)
+-- choice condition l, where it is there: its place, which is that of a condition
+module _ {S : Type 0} (N : Network S) (places : List (Option ℕ)) (known : ChoicePlaces N places) (l p : ℕ) (is : get_or places l None ≡ Some p) where
+  pub place_is : place_of N places l ≡ p
+  place_is = ap (λ (o : Option ℕ). unwrap_or o (length N.conditions)) is
+
+  pub place_there : place_of N places l < length N.conditions
+  place_there = omega (arith, place_is, known.there l p is)

@@ -38,7 +38,8 @@ pub(crate) fn descend<T: Source>(
     };
     let mut chosen = windows;
     chosen[place] = w as u8;
-    close(&Chosen::over(source, chosen, place + 1), matrix, links)
-        .is_none()
-        .then_some(chosen)
+    match close(&Chosen::over(source, chosen, place + 1), matrix, links) {
+        Ok(()) => Some(chosen),
+        Err(_) => None,
+    }
 }

@@ -11,8 +11,8 @@ give_up-edges-requires g c =
     let n = c.points.result in
     let is : n ≡ N.points = c.points.ensures in
     let few = entries_few n (omega (arith, c.requires.legal.few_points)) in
-    let edge = c.in-Some.edge in
-    let no = with_number g.T.Span.Span.kind N c.args.matrix.now c.args.cycle.now n c.close.new.links edge.first edge.last edge.code is c.in-Some.ensures.ends in
+    let edge = c.in-Err.edge in
+    let no = with_number g.T.Span.Span.kind N c.args.matrix.now c.args.cycle.now n c.close.new.links edge.first edge.last edge.code is c.in-Err.ensures.ends in
     record {
       points = (omega (arith, no.first_there), omega (arith, no.last_there));
       room = omega (arith, ap (λ (m : ℕ). m * m) is);
@@ -20,16 +20,16 @@ give_up-edges-requires g c =
       fits = λ cs ps x. omega (arith, no.closing.few cs ps x);
     }
 
-pub returns-in-Some : goal.returns-in-Some
-returns-in-Some g c =
+pub returns-in-Err : goal.returns-in-Err
+returns-in-Err g c =
     let N = g.T.Source.means c.args.source.now in
     let n = c.points.result in
     let K = g.T.Span.Span.kind in
-    let edge = c.in-Some.edge in (
+    let edge = c.in-Err.edge in (
       c.give_up-edges.result,
       refl,
       contradicted K N c.args.matrix.now c.args.cycle.now n (linked n c.close.new.links) edge.first edge.last edge.code c.give_up-edges.result
           c.close.new.matrix c.give_up-edges.new.matrix c.give_up-edges.new.cycle c.requires.legal c.points.ensures
-          (with_number K N c.args.matrix.now c.args.cycle.now n c.close.new.links edge.first edge.last edge.code c.points.ensures c.in-Some.ensures.ends)
+          (with_number K N c.args.matrix.now c.args.cycle.now n c.close.new.links edge.first edge.last edge.code c.points.ensures c.in-Err.ensures.ends)
           c.close.ensures.rest c.give_up-edges.ensures.cycle c.give_up-edges.ensures.blank,
     )

@@ -6,8 +6,9 @@ use Rattle.networks.specs.Plan.{HasPlan}
 use Rattle.networks.specs.Legal.{Legal}
 use Rattle.networks.specs.Selection.{chosen}
 use Rattle.distances.specs.Closing.{Closes}
+use Rattle.distances.specs.Matrix.{Rest}
 use Rattle.schedules.specs.Choosing.{place_of, GoesOn}
-use Rattle.schedules.proofs.Descending.{window_there, legal_with, ruled_out, stays, goes_on, none_then}
+use Rattle.schedules.proofs.Descending.{window_there, legal_with, ruled_out, stays, goes_on, place_is, place_there}
 use Rattle.schedules.proofs.descent.descend.Goals as goal
 
 past_all : (o : Option ℕ) (n : ℕ) → ((x : ℕ) → o ≡ Some x → ⊥) → n ≤ unwrap_or o n
@@ -24,8 +25,8 @@ pub overflow_cast-chosen : goal.overflow_cast-chosen
 overflow_cast-chosen g c =
     let N = g.T.Source.means c.args.source.now in
     let P = place_of N c.args.places c.args.l in
-    let is : P ≡ c.in-Some.place = ap (λ (o : Option ℕ). unwrap_or o (length N.conditions)) c.in-Some.is in
-    let here : P < length N.conditions = omega (arith, is, c.requires.places.0.there c.args.l c.in-Some.place c.in-Some.is) in
+    let is = place_is N c.args.places c.requires.places.0 c.args.l c.in-Some.place c.in-Some.is in
+    let here = place_there N c.args.places c.requires.places.0 c.args.l c.in-Some.place c.in-Some.is in
     omega (arith, window_there N _ _ _ c.requires.upto c.requires.turn here, (c.requires.legal.each_condition P here).few_windows)
 
 pub close-requires-clause-legal : goal.close-requires-clause-legal
@@ -33,14 +34,14 @@ close-requires-clause-legal g c =
     let K = g.T.Span.Span.kind in
     let N = g.T.Source.means c.args.source.now in
     let P = place_of N c.args.places c.args.l in
-    let is : P ≡ c.in-Some.place = ap (λ (o : Option ℕ). unwrap_or o (length N.conditions)) c.in-Some.is in
-    let here : P < length N.conditions = omega (arith, is, c.requires.places.0.there c.args.l c.in-Some.place c.in-Some.is) in
+    let is = place_is N c.args.places c.requires.places.0 c.args.l c.in-Some.place c.in-Some.is in
+    let here = place_there N c.args.places c.requires.places.0 c.args.l c.in-Some.place c.in-Some.is in
     subst (Legal K) (sym c.over.ensures)
     (subst (λ (i : ℕ). Legal K (chosen N (set c.args.windows i c.args.w) (i + 1))) is
     (legal_with N _ _ _ c.requires.upto c.requires.turn here g.met.T.Span.Span.lawful c.requires.legal))
 
-pub returns-clause-goes : goal.returns-clause-goes
-returns-clause-goes g c =
+pub returns-in-Ok : goal.returns-in-Ok
+returns-in-Ok g c =
     let K = g.T.Span.Span.kind in
     let N = g.T.Source.means c.args.source.now in
     let P = place_of N c.args.places c.args.l in
@@ -48,14 +49,29 @@ returns-clause-goes g c =
     let ws = c.args.windows in
     let w = c.args.w in
     let matrix = c.close.new.matrix in
-    let is : P ≡ c.in-Some.place = ap (λ (o : Option ℕ). unwrap_or o (length N.conditions)) c.in-Some.is in
-    let here : P < length N.conditions = omega (arith, is, c.requires.places.0.there c.args.l c.in-Some.place c.in-Some.is) in
-    none_then (λ us. GoesOn K N ws P w us next matrix) c.close.result (set ws c.in-Some.place w) c.is_none.result c.then_some.result
-    c.close.ensures.ends c.is_none.ensures c.then_some.ensures
-    (λ closes. subst (λ (i : ℕ). GoesOn K N ws P w (set ws i w) next matrix) is
-    (goes_on N (place_of N c.args.places) c.requires.places.0.in_order _ c.requires.places.1 _ _ c.requires.upto c.requires.turn _ here
-    (subst (λ (i : ℕ). Closes K (chosen N (set ws i w) (i + 1)) matrix) (sym is)
-    (subst (λ (M : Network g.row.T-Span.Denot). Closes K M matrix) c.over.ensures closes))))
-    (λ e cannot. ruled_out N _ _ _ c.requires.upto c.requires.turn here g.met.T.Span.Span.lawful c.requires.legal
-    (subst (λ (i : ℕ). HasPlan K (hulls (chosen N (set ws i w) (i + 1))) → ⊥) (sym is)
-    (subst (λ (M : Network g.row.T-Span.Denot). HasPlan K (hulls M) → ⊥) c.over.ensures cannot.no_plan)))
+    let is = place_is N c.args.places c.requires.places.0 c.args.l c.in-Some.place c.in-Some.is in
+    let here = place_there N c.args.places c.requires.places.0 c.args.l c.in-Some.place c.in-Some.is in
+    let closes = subst (λ (M : Network g.row.T-Span.Denot). Closes K M matrix) c.over.ensures c.in-Ok.ensures.ends in
+    record {
+      goes = subst (λ (i : ℕ). GoesOn K N ws P w (set ws i w) next matrix) is
+          (goes_on N (place_of N c.args.places) c.requires.places.0.in_order _ c.requires.places.1 _ _ c.requires.upto c.requires.turn _ here
+          (subst (λ (i : ℕ). Closes K (chosen N (set ws i w) (i + 1)) matrix) (sym is) closes));
+      rest = subst (λ (M : Network g.row.T-Span.Denot). Rest M.points c.args.matrix.now matrix) c.over.ensures c.close.ensures.rest;
+    }
+
+pub returns-in-Err : goal.returns-in-Err
+returns-in-Err g c =
+    let K = g.T.Span.Span.kind in
+    let N = g.T.Source.means c.args.source.now in
+    let P = place_of N c.args.places c.args.l in
+    let ws = c.args.windows in
+    let w = c.args.w in
+    let matrix = c.close.new.matrix in
+    let is = place_is N c.args.places c.requires.places.0 c.args.l c.in-Some.place c.in-Some.is in
+    let here = place_there N c.args.places c.requires.places.0 c.args.l c.in-Some.place c.in-Some.is in
+    let none = subst (λ (M : Network g.row.T-Span.Denot). HasPlan K (hulls M) → ⊥) c.over.ensures c.in-Err.ensures.ends.no_plan in
+    record {
+      goes = ruled_out N _ _ _ c.requires.upto c.requires.turn here g.met.T.Span.Span.lawful c.requires.legal
+          (subst (λ (i : ℕ). HasPlan K (hulls (chosen N (set ws i w) (i + 1))) → ⊥) (sym is) none);
+      rest = subst (λ (M : Network g.row.T-Span.Denot). Rest M.points c.args.matrix.now matrix) c.over.ensures c.close.ensures.rest;
+    }
