@@ -8,7 +8,9 @@ use Rattle.networks.specs.Network.{Condition, window_of}
 use Rattle.networks.specs.Rows.{room}
 use Rattle.list_text.specs.Filling.{condition_row, Filled}
 use Rattle.list_text.specs.Machine.{rows_more}
-use Rattle.list_text.specs.Reading.{Leads, Behind, Shows, conditions_from, Readable, NextRow}
+use Rattle.list_text.specs.Reading.{Leads, Shows, conditions_from, Readable, NextRow}
+use Rattle.list_text.specs.declared.reader.Reader.{Reader}
+use Rattle.list_text.proofs.Moves.{then}
 use Rattle.list_text.proofs.Texts.{front_read, all_front, no_fault}
 
 -- a row that shows a condition from its first window on is its row
@@ -24,15 +26,14 @@ shown_row c r s =
     let same : record { from = r.from; to = r.to; count = r.count; first = r.first; second = r.second; third = r.third; fourth = r.fourth } ≡ condition_row c = cc in
     same
 
-pub record FillSoFar (t : List ℕ) (from p first count filled : ℕ) (old new : List (Row Minutes)) : Type 0 where
-  pub behind : Behind t from p
-  pub few : count ≤ p
+pub record FillSoFar (from p : Reader) (first count filled : ℕ) (old new : List (Row Minutes)) : Type 0 where
+  pub few : count ≤ p.at
   pub list : List (Condition Minutes)
   pub many : count ≡ length list
   pub so_many : filled ≡ count - first
   pub fits : filled ≤ length old
   pub rows : new ≡ map condition_row (drop first list) ++ drop filled old
-  pub leads : Leads t from (rows_more 0 0 []) p (rows_more 0 0 list)
+  pub leads : Leads from (rows_more 0 0 []) p (rows_more 0 0 list)
 
 drop_none : {X : Type 0} (n : ℕ) → drop {A = X} n [] ≡ []
 drop_none zero = refl
@@ -90,39 +91,32 @@ fill_all first all cs filled old new e z fits rows = subst (λ a. Filled a first
 })
 
 -- ---- one step: the row at p is read
-module _ (t : List ℕ) (from p first count filled : ℕ) (old new : List (Row Minutes)) (f : FillSoFar t from p first count filled old new)
-    (c : Condition Minutes) (r : Row Minutes) (q : ℕ) (s : Shows c 0 r) (on : p < q) (within : q ≤ length t)
-    (leads : (n m : ℕ) (cs : List (Condition Minutes)) → Leads t p (rows_more n m cs) q (rows_more n m (cs ++ (c ∷ [])))) where
-  behind_more : Behind t from q
-  behind_more = let a = f.behind.onward in record { onward = omega arith; within = within }
-
-  leads_more : Leads t from (rows_more 0 0 []) q (rows_more 0 0 (f.list ++ (c ∷ [])))
-  leads_more = record { leads = f.leads.leads ∙ (leads 0 0 f.list).leads }
-
+module _ (from p : Reader) (first count filled : ℕ) (old new : List (Row Minutes)) (f : FillSoFar from p first count filled old new)
+    (c : Condition Minutes) (r : Row Minutes) (q : Reader) (s : Shows c 0 r) (on : p.at < q.at)
+    (leads : (n m : ℕ) (cs : List (Condition Minutes)) → Leads p (rows_more n m cs) q (rows_more n m (cs ++ (c ∷ [])))) where
   step : (filled' : ℕ) (new' : List (Row Minutes)) → filled' ≡ (count + 1) - first → filled' ≤ length old
-      → new' ≡ map condition_row (drop first (f.list ++ (c ∷ []))) ++ drop filled' old → FillSoFar t from q first (count + 1) filled' old new'
+      → new' ≡ map condition_row (drop first (f.list ++ (c ∷ []))) ++ drop filled' old → FillSoFar from q first (count + 1) filled' old new'
   step filled' new' so_many fits rows =
       let few = f.few in
       let many = f.many in
       let l = length-append f.list (c ∷ []) in
       record {
-        behind = behind_more;
         few = omega arith;
         list = f.list ++ (c ∷ []);
         many = omega arith;
         so_many = so_many;
         fits = fits;
         rows = rows;
-        leads = leads_more;
+        leads = then f.leads (leads 0 0 f.list);
       }
 
-  pub step_past : count < first → FillSoFar t from q first (count + 1) filled old new
+  pub step_past : count < first → FillSoFar from q first (count + 1) filled old new
   step_past h =
       let many = f.many in
       let z = f.so_many in
       step filled new (omega arith) f.fits (fill_past first f.list c filled old new f.rows (omega arith) (omega arith))
 
-  pub step_more : first ≤ count → filled < length old → FillSoFar t from q first (count + 1) (filled + 1) old (set new filled r)
+  pub step_more : first ≤ count → filled < length old → FillSoFar from q first (count + 1) (filled + 1) old (set new filled r)
   step_more h room =
       let many = f.many in
       let z = f.so_many in
@@ -130,17 +124,17 @@ module _ (t : List ℕ) (from p first count filled : ℕ) (old new : List (Row M
       (ap (set new filled) (shown_row c r s) ∙ fill_more first f.list c filled old new f.rows (omega arith) (omega arith) room)
 
 -- ---- the end: no room is left, or no row follows
-module _ (t : List ℕ) (from p first count filled : ℕ) (old new : List (Row Minutes)) (f : FillSoFar t from p first count filled old new) (r : Readable t from) where
-  pub filled_full : length old ≤ filled → Filled (conditions_from t from) first old new filled
+module _ (from p : Reader) (first count filled : ℕ) (old new : List (Row Minutes)) (f : FillSoFar from p first count filled old new) (r : Readable from.text.now from.at) where
+  pub filled_full : length old ≤ filled → Filled (conditions_from from.text.now from.at) first old new filled
   filled_full full =
       let many = f.many in
       let z = f.so_many in
-      let front = front_read t from p f.list r f.leads in
-      fill_full first (conditions_from t from) f.list front.0 filled old new front.1 (omega arith) f.fits full f.rows
+      let front = front_read from p f.list r f.leads in
+      fill_full first (conditions_from from.text.now from.at) f.list front.0 filled old new front.1 (omega arith) f.fits full f.rows
 
-  pub filled_rest : NextRow t p None → Filled (conditions_from t from) first old new filled
+  pub filled_rest : NextRow p None → Filled (conditions_from from.text.now from.at) first old new filled
   filled_rest (inl (q, h)) =
       let many = f.many in
       let z = f.so_many in
-      fill_all first (conditions_from t from) f.list filled old new (all_front t from p q f.list r f.leads (h 0 0 f.list)) (omega arith) f.fits f.rows
-  filled_rest (inr (e, h)) = absurd (no_fault t from p e f.list r f.leads (h 0 0 f.list))
+      fill_all first (conditions_from from.text.now from.at) f.list filled old new (all_front from p f.list r f.leads q (h 0 0 f.list)) (omega arith) f.fits f.rows
+  filled_rest (inr (e, h)) = absurd (no_fault from p f.list r f.leads e (h 0 0 f.list))

@@ -1,33 +1,32 @@
-// Classes of bytes, and how far bytes of a class reach.
-// For this crate alone: what a function here requires, each of its callers proves.
+// How far bytes of a class reach.
 ghost use Rattle.std.specs.Prelude.{◌≡◌, ◌≤◌, length};
-ghost use Rattle.list_text.specs.Lexing.{in_class, Passed};
+ghost use Rattle.std.specs.List.{prefix_len};
+ghost use Rattle.list_text.specs.Grammar.{blank, digit};
+ghost use Rattle.list_text.specs.Lexing.{letter};
 
-#[derive(Clone, Copy)]
-pub enum Class {
-    Blank,
-    Digit,
-    Letter,
+// How many blanks stand in front.
+pub(crate) fn blanks(bytes: &[u8]) -> usize
+    ensures many { result ≡ prefix_len blank bytes.now }
+    ensures within { result ≤ length bytes.now }
+{
+    bytes
+        .iter()
+        .take_while(|b| matches!(**b, b' ' | b'\t' | b'\n' | b'\r'))
+        .count()
 }
 
-fn is_of(class: Class, b: u8) -> bool
-    ensures { result ≡ in_class class b }
+// How many digits stand in front.
+pub(crate) fn digits(bytes: &[u8]) -> usize
+    ensures many { result ≡ prefix_len digit bytes.now }
+    ensures within { result ≤ length bytes.now }
 {
-    match class {
-        Class::Blank => b == b' ' || b == b'\t' || b == b'\n' || b == b'\r',
-        Class::Digit => b >= b'0' && b <= b'9',
-        Class::Letter => (b >= b'A' && b <= b'Z') || (b >= b'a' && b <= b'z'),
-    }
+    bytes.iter().take_while(|b| b.is_ascii_digit()).count()
 }
 
-// The place behind the bytes of the class that stand from `from` on.
-pub(crate) fn past(class: Class, text: &[u8], from: usize) -> usize
-    requires { from ≤ length text.now }
-    ensures { Passed (in_class class) text.now from result }
+// How many letters stand in front.
+pub(crate) fn letters(bytes: &[u8]) -> usize
+    ensures many { result ≡ prefix_len letter bytes.now }
+    ensures within { result ≤ length bytes.now }
 {
-    let mut p = from;
-    while p < text.len() && is_of(class, text[p]) {
-        p += 1;
-    }
-    p
+    bytes.iter().take_while(|b| b.is_ascii_alphabetic()).count()
 }

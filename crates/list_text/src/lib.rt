@@ -6,6 +6,7 @@ mod bytes;
 mod filling;
 mod lexer;
 mod numbers;
+mod reader;
 mod rows;
 mod source;
 mod token;

@@ -1,5 +1,6 @@
 use Rattle.std.proofs.Common.{◌+◌, ◌-◌, ◌*◌, ◌<◌, length, get_or, sym, ap, ◌∙◌, arith}
 use Rattle.std.proofs.lemmas.List.{take_all}
+use Rattle.std.proofs.lemmas.Bool.{eqb-false}
 use Rattle.list_text.specs.Grammar.{written}
 use Rattle.list_text.proofs.Numerals.{written_more, digit_at, digits_more, ten_to}
 use Rattle.list_text.proofs.numbers.value.Goals as goal
@@ -26,7 +27,8 @@ loop-d-preserved c =
 
 pub returns : goal.returns
 returns c =
-    let ds = c.args.digits.now in (
+    let ds = c.args.digits.now in
+    let some = eqb-false _ _ (sym c.is_empty.ensures ∙ c.if-is_empty.false) in (
       record {
         some = omega arith;
         few = omega arith;
