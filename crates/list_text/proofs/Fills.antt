@@ -1,16 +1,23 @@
 -- Filling rows one by one with the conditions of a text. Assumes nothing.
-use Rattle.std.proofs.Common.{◌≡◌, ℕ, zero, suc, ◌+◌, ◌-◌, ◌<◌, ◌≤◌, List, [], ◌∷◌, ◌++◌, map, length, get_or, take, drop, set, None, sym, refl, ap, ◌∙◌, subst, inl, inr, append_assoc, arith, length-append, length-drop}
-use Rattle.std.proofs.lemmas.List.{length-map, map-append, drop-append-le, drop_all, drop_more, set_at, take_all, take-append-le}
+use Rattle.std.proofs.Common.{◌≡◌, ℕ, ◌+◌, ◌-◌, ◌<◌, ◌≤◌, ◌⊎◌, List, [], ◌∷◌, ◌++◌, map, length, get_or, take, drop, set, Some, None, Option, sym, refl, ap, ◌∙◌, subst, inl, inr, ⊎_elim, append_assoc, arith, length-append, length-drop, length-take}
+use Rattle.std.proofs.lemmas.List.{length-map, append_cancel_left, drop_all, drop_more, set_at, take_all, take_more, drop-map, take-map}
 use Rattle.std.proofs.lemmas.Bool.{cases_lt}
+use Rattle.std.proofs.lemmas.Iterator.{YieldsList}
+use Rattle.std.proofs.lemmas.Iterator.Adapters.{YieldsList-from_skip}
+use Rattle.std.proofs.lemmas.Iterator.Consumers.{YieldsList-at}
+use Rattle.std.specs.Iterator.{AlwaysYields}
+use Rattle.std.specs.Iterator.Adapters.{skip_steps, skip_source, skip_count}
+use Rattle.std.specs.declared.iter.Skip.{Skip}
 use Rattle.spans.specs.declared.minutes.Minutes.{Minutes}
 use Rattle.networks.specs.declared.rows.Row.{Row}
 use Rattle.networks.specs.Network.{Condition, window_of}
-use Rattle.networks.specs.Rows.{room}
-use Rattle.list_text.specs.Filling.{condition_row, Filled}
-use Rattle.list_text.specs.Machine.{rows_more}
-use Rattle.list_text.specs.Reading.{Leads, Shows, conditions_from, Readable, NextRow}
+use Rattle.networks.specs.Rows.{row_of}
 use Rattle.list_text.specs.declared.reader.Reader.{Reader}
-use Rattle.list_text.proofs.Moves.{then}
+use Rattle.list_text.specs.declared.filling.Following.{Following}
+use Rattle.list_text.specs.Grammar.{Listing}
+use Rattle.list_text.specs.Filling.{condition_row, Filled}
+use Rattle.list_text.specs.Machine.{rows_more, run, reads}
+use Rattle.list_text.specs.Reading.{ahead, Shows, conditions_from, Readable, NextRow, GivesRow}
 use Rattle.list_text.proofs.Texts.{front_read, all_front, no_fault}
 
 -- a row that shows a condition from its first window on is its row
@@ -26,115 +33,96 @@ shown_row c r s =
     let same : record { from = r.from; to = r.to; count = r.count; first = r.first; second = r.second; third = r.third; fourth = r.fourth } ≡ condition_row c = cc in
     same
 
-pub record FillSoFar (from p : Reader) (first count filled : ℕ) (old new : List (Row Minutes)) : Type 0 where
-  pub few : count ≤ p.at
-  pub list : List (Condition Minutes)
-  pub many : count ≡ length list
-  pub so_many : filled ≡ count - first
-  pub fits : filled ≤ length old
-  pub rows : new ≡ map condition_row (drop first list) ++ drop filled old
-  pub leads : Leads from (rows_more 0 0 []) p (rows_more 0 0 list)
+-- ---- the rows that follow are the rows of the conditions
+abbrev pub gives : Following → Option (Row Minutes) → Following → Type 0
+gives s row t = GivesRow s.reader row t.reader
 
-drop_none : {X : Type 0} (n : ℕ) → drop {A = X} n [] ≡ []
-drop_none zero = refl
-drop_none (suc n) = refl
+front_same : (cs ds es : List (Condition Minutes)) (c d : Condition Minutes) → cs ++ (d ∷ ds) ≡ (cs ++ (c ∷ [])) ++ es → c ≡ d
+front_same cs ds es c d e =
+    let h : d ∷ ds ≡ c ∷ es = append_cancel_left cs (d ∷ ds) (c ∷ es) (e ∙ append_assoc cs (c ∷ []) es) in cc
 
-pub fill_none : (first : ℕ) (old : List (Row Minutes)) → old ≡ map condition_row (drop first []) ++ drop 0 old
-fill_none first old = sym (ap (λ cs. map condition_row cs ++ old) (drop_none first))
+follows : (s : Following) (cs ds : List (Condition Minutes)) (l : Listing) → run s.reader.at (rows_more 0 0 cs) (ahead s.reader) ≡ reads l → l.conditions ≡ cs ++ ds
+    → AlwaysYields gives (λ x. x) s (map condition_row ds)
+follows s cs [] l e is = λ x t (c, shows, on, leads).
+    let front = front_read t.reader (cs ++ (c ∷ [])) l (sym (leads 0 0 cs).leads ∙ e) in
+    let n : length (cs ++ []) ≡ length ((cs ++ (c ∷ [])) ++ front.0) = ap length (sym is ∙ front.1) in
+    let a = length-append cs [] in
+    let b = length-append (cs ++ (c ∷ [])) front.0 in
+    let d = length-append cs (c ∷ []) in
+    absurd (omega arith)
+follows s cs (d ∷ ds) l e is = (
+  λ t none. absurd (more none),
+  λ x t (c, shows, on, leads).
+      let e' : run t.reader.at (rows_more 0 0 (cs ++ (c ∷ []))) (ahead t.reader) ≡ reads l = sym (leads 0 0 cs).leads ∙ e in
+      let front = front_read t.reader (cs ++ (c ∷ [])) l e' in
+      let same : c ≡ d = front_same cs ds front.0 c d (sym is ∙ front.1) in
+      (shown_row c x shows ∙ ap condition_row same, follows t (cs ++ (c ∷ [])) ds l e' (is ∙ ap (λ c. cs ++ (c ∷ ds)) (sym same) ∙ sym (append_assoc cs (c ∷ []) ds))),
+)
+  where
+    more : NextRow s.reader None → ⊥
+    more (inl (u, h)) =
+        let n : length (cs ++ (d ∷ ds)) ≡ length cs = ap length (sym is ∙ all_front s.reader cs l e u (h 0 0 cs)) in
+        let a = length-append cs (d ∷ ds) in
+        omega arith
+    more (inr (p, h)) = no_fault s.reader cs l e p (h 0 0 cs)
 
-module _ (first : ℕ) (cs : List (Condition Minutes)) (c : Condition Minutes) (filled : ℕ) (old new : List (Row Minutes))
-    (rows : new ≡ map condition_row (drop first cs) ++ drop filled old) where
-  -- a condition before the first that is wanted
-  pub fill_past : length cs < first → filled ≡ 0 → new ≡ map condition_row (drop first (cs ++ (c ∷ []))) ++ drop filled old
-  fill_past h z =
-      let l = length-append cs (c ∷ []) in
-      rows ∙ ap (λ ds. map condition_row ds ++ drop filled old) (drop_all first cs (omega arith) ∙ sym (drop_all first (cs ++ (c ∷ [])) (omega arith)))
+-- ---- row by row
+-- the rows that are to be copied
+abbrev pub wanted : List ℕ → ℕ → ℕ → List (Row Minutes)
+wanted t p first = drop first (map condition_row (conditions_from t p))
 
-  -- one that is wanted
-  pub fill_more : first ≤ length cs → filled ≡ length cs - first → filled < length old
-      → set new filled (condition_row c) ≡ map condition_row (drop first (cs ++ (c ∷ []))) ++ drop (filled + 1) old
-  fill_more h z lt =
-      let A = map condition_row (drop first cs) in
-      let row = condition_row c in
-      let la : length A ≡ filled = length-map (drop first cs) condition_row ∙ length-drop first cs ∙ sym z in
-      ap (λ xs. set xs filled row) (rows ∙ ap (λ ys. A ++ ys) (drop_more old filled row lt))
-      ∙ set_at A (get_or old filled row) (drop (filled + 1) old) row filled la
-      ∙ sym (append_assoc A (row ∷ []) (drop (filled + 1) old))
-      ∙ ap (λ xs. xs ++ drop (filled + 1) old) (sym (map-append condition_row (drop first cs) (c ∷ [])))
-      ∙ ap (λ ds. map condition_row ds ++ drop (filled + 1) old) (sym (drop-append-le first cs (c ∷ []) h))
+pub record FillSoFar (rows : List (Row Minutes)) (filled : ℕ) (old new : List (Row Minutes)) (s : Skip Following) : Type 0 where
+  pub enough : filled ≤ length rows
+  pub is : new ≡ take filled rows ++ drop filled old
+  pub left : AlwaysYields (skip_steps gives) (λ x. x) s (drop filled rows)
 
-front_taken : (first : ℕ) (cs ds : List (Condition Minutes)) (filled : ℕ) → filled ≡ length cs - first → take filled (drop first (cs ++ ds)) ≡ drop first cs
-front_taken first cs ds filled z = elim (cases_lt (length cs) first) [
-  | inl h ↦ let n : filled ≡ 0 = omega arith in ap (λ n. take n (drop first (cs ++ ds))) n ∙ sym (drop_all first cs (omega arith))
-  | inr h ↦
-      let l = length-drop first cs in
-      ap (take filled) (drop-append-le first cs ds h) ∙ take-append-le filled (drop first cs) ds (omega arith) ∙ take_all filled (drop first cs) (omega arith)
-]
+pub fill_none : (r : Reader) (first : ℕ) (old : List (Row Minutes)) (s : Skip Following) → skip_source s ≡ record { reader = r } → skip_count s ≡ first
+    → Readable r.text.now r.at → FillSoFar (wanted r.text.now r.at first) 0 old old s
+fill_none r first old s source count i =
+    let f = follows (record { reader = r }) [] i.listing.conditions i.listing i.reads_it refl in
+    let f' = subst (λ cs. AlwaysYields gives (λ x. x) (record { reader = r }) (map condition_row cs)) (sym i.means_it) f in
+    let road : YieldsList (skip_steps gives) (λ x. x) s (wanted r.text.now r.at first) =
+    YieldsList-from_skip {steps = gives} {v = λ x. x} first (YieldsList-at source (record { runs = f' })) count in
+    record { enough = omega arith; is = refl; left = road.runs }
 
--- the room is full
-pub fill_full : (first : ℕ) (all cs ds : List (Condition Minutes)) (filled : ℕ) (old new : List (Row Minutes)) → all ≡ cs ++ ds
-    → filled ≡ length cs - first → filled ≤ length old → length old ≤ filled → new ≡ map condition_row (drop first cs) ++ drop filled old → Filled all first old new filled
-fill_full first all cs ds filled old new e z fits full rows =
-    let l = length-append cs ds in
-    let one : length old ≡ filled = omega arith in
-    subst (λ a. Filled a first old new filled) (sym e) (record {
-      count = omega arith;
-      rows = rows ∙ ap (λ xs. map condition_row xs ++ drop filled old) (sym (ap (λ n. take n (drop first (cs ++ ds))) one ∙ front_taken first cs ds filled z));
-    })
+module _ (rows : List (Row Minutes)) (filled : ℕ) (old new : List (Row Minutes)) (s t : Skip Following) (f : FillSoFar rows filled old new s) where
+  pub fill_more : (row : Row Minutes) → skip_steps gives s (Some row) t → filled < length old → FillSoFar rows (filled + 1) old (set new filled row) t
+  fill_more row step room = elim (cases_lt filled (length rows)) [
+    | inl lt ↦
+        let h = subst (AlwaysYields (skip_steps gives) (λ x. x) s) (drop_more rows filled row lt) f.left in
+        let next = h.1 row t step in
+        let n = length-take filled rows in
+        let few : length (take filled rows) ≡ filled = omega arith in
+        record {
+          enough = omega arith;
+          is = ap (λ xs. set xs filled row) (f.is ∙ ap (λ ys. take filled rows ++ ys) (drop_more old filled row room))
+              ∙ set_at (take filled rows) (get_or old filled row) (drop (filled + 1) old) row filled few
+              ∙ sym (append_assoc (take filled rows) (row ∷ []) (drop (filled + 1) old))
+              ∙ ap (λ x. (take filled rows ++ (x ∷ [])) ++ drop (filled + 1) old) next.0
+              ∙ ap (λ xs. xs ++ drop (filled + 1) old) (sym (take_more rows filled row lt));
+          left = next.1;
+        }
+    | inr ge ↦ absurd (subst (AlwaysYields (skip_steps gives) (λ x. x) s) (drop_all filled rows ge) f.left row t step)
+  ]
 
--- all conditions are read
-pub fill_all : (first : ℕ) (all cs : List (Condition Minutes)) (filled : ℕ) (old new : List (Row Minutes)) → all ≡ cs
-    → filled ≡ length cs - first → filled ≤ length old → new ≡ map condition_row (drop first cs) ++ drop filled old → Filled all first old new filled
-fill_all first all cs filled old new e z fits rows = subst (λ a. Filled a first old new filled) (sym e) (record {
-  count = omega arith;
-  rows = rows ∙ ap (λ ds. map condition_row ds ++ drop filled old) (sym (take_all (length old) (drop first cs) (let l = length-drop first cs in omega arith)));
-})
+  pub none_left : skip_steps gives s None t → length rows ≤ filled
+  none_left step = elim (cases_lt filled (length rows)) [
+    | inl lt ↦ absurd ((subst (AlwaysYields (skip_steps gives) (λ x. x) s) (drop_more rows filled (get_or rows filled (row_of 0 0 [])) lt) f.left).0 t step)
+    | inr ge ↦ ge
+  ]
 
--- ---- one step: the row at p is read
-module _ (from p : Reader) (first count filled : ℕ) (old new : List (Row Minutes)) (f : FillSoFar from p first count filled old new)
-    (c : Condition Minutes) (r : Row Minutes) (q : Reader) (s : Shows c 0 r) (on : p.at < q.at)
-    (leads : (n m : ℕ) (cs : List (Condition Minutes)) → Leads p (rows_more n m cs) q (rows_more n m (cs ++ (c ∷ [])))) where
-  step : (filled' : ℕ) (new' : List (Row Minutes)) → filled' ≡ (count + 1) - first → filled' ≤ length old
-      → new' ≡ map condition_row (drop first (f.list ++ (c ∷ []))) ++ drop filled' old → FillSoFar from q first (count + 1) filled' old new'
-  step filled' new' so_many fits rows =
-      let few = f.few in
-      let many = f.many in
-      let l = length-append f.list (c ∷ []) in
-      record {
-        few = omega arith;
-        list = f.list ++ (c ∷ []);
-        many = omega arith;
-        so_many = so_many;
-        fits = fits;
-        rows = rows;
-        leads = then f.leads (leads 0 0 f.list);
-      }
-
-  pub step_past : count < first → FillSoFar from q first (count + 1) filled old new
-  step_past h =
-      let many = f.many in
-      let z = f.so_many in
-      step filled new (omega arith) f.fits (fill_past first f.list c filled old new f.rows (omega arith) (omega arith))
-
-  pub step_more : first ≤ count → filled < length old → FillSoFar from q first (count + 1) (filled + 1) old (set new filled r)
-  step_more h room =
-      let many = f.many in
-      let z = f.so_many in
-      step (filled + 1) (set new filled r) (omega arith) (omega arith)
-      (ap (set new filled) (shown_row c r s) ∙ fill_more first f.list c filled old new f.rows (omega arith) (omega arith) room)
-
--- ---- the end: no room is left, or no row follows
-module _ (from p : Reader) (first count filled : ℕ) (old new : List (Row Minutes)) (f : FillSoFar from p first count filled old new) (r : Readable from.text.now from.at) where
-  pub filled_full : length old ≤ filled → Filled (conditions_from from.text.now from.at) first old new filled
-  filled_full full =
-      let many = f.many in
-      let z = f.so_many in
-      let front = front_read from p f.list r f.leads in
-      fill_full first (conditions_from from.text.now from.at) f.list front.0 filled old new front.1 (omega arith) f.fits full f.rows
-
-  pub filled_rest : NextRow p None → Filled (conditions_from from.text.now from.at) first old new filled
-  filled_rest (inl (q, h)) =
-      let many = f.many in
-      let z = f.so_many in
-      fill_all first (conditions_from from.text.now from.at) f.list filled old new (all_front from p f.list r f.leads q (h 0 0 f.list)) (omega arith) f.fits f.rows
-  filled_rest (inr (e, h)) = absurd (no_fault from p f.list r f.leads e (h 0 0 f.list))
+-- no room is left, or no row
+pub filled_all : (t : List ℕ) (p first filled : ℕ) (old new : List (Row Minutes)) (s : Skip Following) → FillSoFar (wanted t p first) filled old new s
+    → filled ≤ length old → (filled ≡ length old) ⊎ (length (wanted t p first) ≤ filled) → Filled (conditions_from t p) first old new filled
+filled_all t p first filled old new s f fits end =
+    let cs = conditions_from t p in
+    let w = wanted t p first in
+    let n : length w ≡ length cs - first = length-drop first (map condition_row cs) ∙ ap (λ n. n - first) (length-map cs condition_row) in
+    let enough = f.enough in
+    let same : take filled w ≡ take (length old) w = ⊎_elim (λ e. ap (λ n. take n w) e) (λ le. take_all filled w le ∙ sym (take_all (length old) w (omega arith))) end in
+    let mapped : take (length old) w ≡ map condition_row (take (length old) (drop first cs)) =
+    ap (take (length old)) (drop-map condition_row first cs) ∙ take-map condition_row (length old) (drop first cs) in
+    record {
+      count = ⊎_elim (λ e. omega arith) (λ le. omega arith) end;
+      rows = f.is ∙ ap (λ xs. xs ++ drop filled old) (same ∙ mapped);
+    }

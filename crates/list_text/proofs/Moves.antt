@@ -1,5 +1,5 @@
 -- How the machine moves over a gap, over a mark, and past what it does not take. Assumes nothing.
-use Rattle.std.proofs.Common.{◌≡◌, ℕ, ◌+◌, ◌-◌, ◌<◌, Bool, true, false, cond, ◌||◌, eqb, ◌⊎◌, List, [], ◌∷◌, ◌++◌, length, get_or, drop, Some, None, sym, refl, ap, ◌∙◌, inl, inr, ⊎_elim, arith, length-drop}
+use Rattle.std.proofs.Common.{◌≡◌, ℕ, ◌+◌, ◌<◌, Bool, true, false, cond, ◌||◌, eqb, ◌⊎◌, List, [], ◌∷◌, ◌++◌, length, get_or, drop, Some, None, sym, refl, ap, ◌∙◌, inl, inr, ⊎_elim, arith, length-drop}
 use Rattle.std.proofs.lemmas.List.{drop_more, drop_all}
 use Rattle.std.proofs.lemmas.Bool.{cond-false, ne_eqb, or_from, both_ways}
 use Rattle.std.proofs.lemmas.Bool.Decides.{nat_tests}
@@ -159,5 +159,10 @@ pub stays : (r : Reader) (s : State) → Leads r s r s
 stays r s = record { text = refl; onward = omega arith; leads = refl }
 
 -- behind a step onward fewer bytes are ahead
-pub nearer : {r q : Reader} {s k : State} → Leads r s q k → r.at < q.at → length q.text.now - q.at < length r.text.now - r.at
-nearer {r} {q} l on = let e : length q.text.now ≡ length r.text.now = ap length l.text in let w = q.inside.within in omega arith
+pub nearer : {r q : Reader} {s k : State} → Leads r s q k → r.at < q.at → length (ahead q) < length (ahead r)
+nearer {r} {q} l on =
+    let a = length-drop r.at r.text.now in
+    let b = length-drop q.at q.text.now in
+    let e : length q.text.now ≡ length r.text.now = ap length l.text in
+    let w = q.inside.within in
+    omega arith

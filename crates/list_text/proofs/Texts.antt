@@ -13,7 +13,7 @@ use Rattle.list_text.specs.Reading.{ahead, Leads, Faults, Shows, conditions_of, 
 use Rattle.std.specs.Result.{result_unwrap_or}
 use Rattle.list_text.specs.declared.reader.Misread.{Misread}
 use Rattle.list_text.specs.declared.reader.Reader.{Reader}
-use Rattle.list_text.proofs.Completions.{Accepts, accepts}
+use Rattle.list_text.proofs.Completions.{accepts}
 use Rattle.list_text.proofs.Readable.{rest_of}
 use Rattle.list_text.proofs.Places.{says_read, fault_stuck, denotes_one, one_place}
 
@@ -34,25 +34,21 @@ pub readable : (r : Reader) (cs : List (Condition Minutes))
 readable r cs e = record { inside = r.inside; listing = _; reads_it = e; means_it = all_read r cs e }
 
 -- ---- rows of a readable text, read one by one
-module _ (r q : Reader) (cs : List (Condition Minutes)) (i : Readable r.text.now r.at) (h : Leads r (rows_more 0 0 []) q (rows_more 0 0 cs)) where
+module _ (q : Reader) (cs : List (Condition Minutes)) (l : Listing) (e : run q.at (rows_more 0 0 cs) (ahead q) ≡ reads l) where
   -- what was read so far is the front of the conditions
-  pub front_read : (ds : List (Condition Minutes)) × (conditions_from r.text.now r.at ≡ cs ++ ds)
-  front_read =
-      let a : Accepts (rows_more 0 0 cs) (ahead q) i.listing = accepts q.at (sym h.leads ∙ i.reads_it) in
-      let rest = rest_of (ahead q) (rows_more 0 0 cs) i.listing a in
-      (rest.0, i.means_it ∙ sym (ap (λ l. l.conditions) rest.6))
+  pub front_read : (ds : List (Condition Minutes)) × (l.conditions ≡ cs ++ ds)
+  front_read = let rest = rest_of (ahead q) (rows_more 0 0 cs) l (accepts q.at e) in (rest.0, sym (ap (λ l. l.conditions) rest.6))
 
   -- where the last bracket follows, it is all of them
-  pub all_front : (u : Reader) → Leads q (rows_more 0 0 cs) u (finished (record { first = 0; second = 0; conditions = cs })) → conditions_from r.text.now r.at ≡ cs
-  all_front u e =
-      let a : Accepts (finished (record { first = 0; second = 0; conditions = cs })) (ahead u) i.listing = accepts u.at (sym e.leads ∙ sym h.leads ∙ i.reads_it) in
-      let rest = rest_of (ahead u) (finished (record { first = 0; second = 0; conditions = cs })) i.listing a in
-      i.means_it ∙ sym (ap (λ l. l.conditions) rest.1)
+  pub all_front : (u : Reader) → Leads q (rows_more 0 0 cs) u (finished (record { first = 0; second = 0; conditions = cs })) → l.conditions ≡ cs
+  all_front u h =
+      let rest = rest_of (ahead u) (finished (record { first = 0; second = 0; conditions = cs })) l (accepts u.at (sym h.leads ∙ e)) in
+      sym (ap (λ l. l.conditions) rest.1)
 
   -- and a fault cannot follow
-  pub no_fault : (e : ℕ) → Faults q (rows_more 0 0 cs) e → ⊥
-  no_fault e f =
-      let g : stuck e ≡ reads i.listing = sym f.faults ∙ sym h.leads ∙ i.reads_it in
+  pub no_fault : (p : ℕ) → Faults q (rows_more 0 0 cs) p → ⊥
+  no_fault p f =
+      let g : stuck p ≡ reads l = sym f.faults ∙ e in
       let z : ◌≡◌ {A = ℕ} 0 1 = cc in omega arith
 
 -- ---- what a look shows

@@ -116,3 +116,8 @@ NextRow r (Some v) =
 NextRow r None =
     ((q : Reader) × ((n m : ℕ) (cs : List (Condition Minutes)) → Leads r (rows_more n m cs) q (finished (record { first = n; second = m; conditions = cs }))))
     ⊎ ((e : ℕ) × ((n m : ℕ) (cs : List (Condition Minutes)) → Faults r (rows_more n m cs) e))
+
+-- the same, where the reader goes on to q
+abbrev pub GivesRow : Reader → Option (Row Minutes) → Reader → Type 0
+GivesRow r (Some row) q = NextRow r (Some (row, q))
+GivesRow r None q = NextRow r None

@@ -1,30 +1,45 @@
 // Copies the conditions of a list text into lent rows, in one pass over the text.
+ghost use Rattle.std.specs.Prelude.{length};
+ghost use Rattle.std.specs.Iterator.{at_most};
 ghost use Rattle.list_text.specs.Filling.{Filled};
-ghost use Rattle.list_text.specs.Reading.{conditions_from, Readable};
+ghost use Rattle.list_text.specs.Reading.{ahead, conditions_from, GivesRow, Readable};
 
 use crate::reader::Reader;
 use networks::Row;
 use spans::Minutes;
+
+// The rows from a reader on, one after another.
+#[derive(Drop)]
+struct Following<'a> {
+    reader: Reader<'a>,
+}
+
+impl Iterator for Following<'_> {
+    type Item = Row<Minutes>;
+
+    ghost next_gives = { λ s row t. GivesRow s.reader row t.reader };
+
+    ghost remaining = { λ s. at_most (length (ahead s.reader)) };
+
+    fn next(&mut self) -> Option<Row<Minutes>> {
+        let (row, after) = self.reader.next_row()?;
+        self.reader = after;
+        Some(row)
+    }
+}
 
 impl Reader<'_> {
     // The rows from here on, those numbered from `first` on, into the front of `rows`; how many were copied.
     pub(crate) fn fill_rows(self, first: usize, rows: &mut [Row<Minutes>]) -> usize
         ensures { Readable self.entry.text.now self.entry.at → Filled (conditions_from self.entry.text.now self.entry.at) first rows.old rows.new result }
     {
-        let mut count = 0;
-        let mut filled = 0;
-        let mut p = self;
-        while filled < rows.len() {
-            let Some((row, after)) = p.next_row() else {
+        let mut following = Following { reader: self }.skip(first);
+        for (filled, slot) in rows.iter_mut().enumerate() {
+            let Some(row) = following.next() else {
                 return filled;
             };
-            if count >= first {
-                rows[filled] = row;
-                filled += 1;
-            }
-            count += 1;
-            p = after;
+            *slot = row;
         }
-        filled
+        rows.len()
     }
 }

@@ -16,9 +16,9 @@ loop-point-preserved c =
     let road = YieldsList-from_skip 1 (YieldsList-from_enumerate (YieldsList-from_slice c.args.dates.now (cc)) (cc)) (cc) in
     let turn = YieldsList-turn road c.loop-point.yielded _ c.loop-point.yielded_by _ _ (c.in-Some.point, c.in-Some.date) c.in-Some.is c.next.ensures.steps in
     let n = length_push c.loop-point.yielded (c.in-Some.point, c.in-Some.date) in
-    let next = so_far_next _ _ _ _ _ _ turn c.in_ok-one.ensures c.loop-point.invariant in
     let Now : ℕ → Type 0 = λ k. SoFar c.args.dates.now k (string_bytes c.loop-point.text ++ string_bytes c.in_ok-one.one) in
     let on : (1 + length c.loop-point.yielded) + 1 ≡ 1 + length (c.loop-point.yielded ++ ((c.in-Some.point, c.in-Some.date) ∷ [])) = omega (arith, n) in
+    let next = so_far_next _ _ _ _ _ _ turn c.in_ok-one.ensures c.loop-point.invariant in
     subst (SoFar c.args.dates.now _) (sym more) (subst Now on next)
 
 pub returns : goal.returns

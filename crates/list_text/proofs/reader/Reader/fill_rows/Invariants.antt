@@ -1,9 +1,8 @@
-use Rattle.std.proofs.Common.{◌-◌, length}
-use Rattle.list_text.proofs.Fills.{FillSoFar}
+use Rattle.list_text.specs.Reading.{Readable}
+use Rattle.list_text.proofs.Fills.{wanted, FillSoFar}
 use Rattle.list_text.proofs.reader.Reader.fill_rows.Given as goal
 
 abbrev pub invariant-loop-filled : goal.invariant-loop-filled
-invariant-loop-filled l = FillSoFar l.self l.p l.first l.count l.filled l.initial.rows l.rows
-
-abbrev pub decreases-loop-filled : goal.decreases-loop-filled
-decreases-loop-filled l = length l.p.text.now - l.p.at
+invariant-loop-filled l =
+    (goal.iterator-loop-filled).can_next l.following × (goal.iterator-loop-filled).is_finite l.following
+    × (Readable l.self.text.now l.self.at → FillSoFar (wanted l.self.text.now l.self.at l.first) l.filled l.initial.rows l.rows l.following)
