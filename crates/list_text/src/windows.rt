@@ -23,19 +23,12 @@ fn fault_in_word(w: &[u8]) -> usize
     requires { 0 < length w.now }
     ensures { result ≡ fault_in w.now }
 {
-    if w[0] == b'E' {
-        return 1;
+    match w {
+        [b'I', b'n', b'f', ..] => 3,
+        [b'I', b'n', ..] => 2,
+        [b'I' | b'E', ..] => 1,
+        _ => 0,
     }
-    if w[0] != b'I' {
-        return 0;
-    }
-    if w.len() < 2 || w[1] != b'n' {
-        return 1;
-    }
-    if w.len() < 3 || w[2] != b'f' {
-        return 2;
-    }
-    3
 }
 
 impl<'a> Reader<'a> {

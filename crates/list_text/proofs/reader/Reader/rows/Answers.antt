@@ -18,27 +18,27 @@ loop-seen-init c = record {
 }
 
 pub returns-then-is : goal.returns-then-is
-returns-then-is c = ((
+returns-then-is c = (
   c.loop-seen.invariant.list,
   sym c.loop-seen.invariant.many,
   c.loop-seen.invariant.shows,
   λ n m. then (c.loop-seen.invariant.leads n m) (rows_close c.next-x.ensures n m _ (c.is.ensures.0 c.if-is.true)),
-))
+)
 
 pub returns-then-not-is : goal.returns-then-not-is
-returns-then-not-is c = (λ n m. stop (c.loop-seen.invariant.leads n m) (rows_fault c.next-x.ensures n m _
-    (λ e. both_ways _ c.if-is.false (c.is.ensures.1 e)) (λ e. both_ways _ c.if-not-is.true (c.is-in-loop-seen.ensures.1 e))))
+returns-then-not-is c = λ n m. stop (c.loop-seen.invariant.leads n m) (rows_fault c.next-x.ensures n m _
+    (λ e. both_ways _ c.if-is.false (c.is.ensures.1 e)) (λ e. both_ways _ c.if-not-is.true (c.is-in-loop-seen.ensures.1 e)))
 
 pub returns-in_err-q : goal.returns-in_err-q
 returns-in_err-q c =
     let p = err_from_is_err_and c.from_residual.result c.from_residual.ensures.1 in
-    rw (p.1, p.2) ((λ n m. stop (c.loop-seen.invariant.leads n m) (stop (rows_semicolon c.next-x.ensures n m _ (c.is-in-loop-seen.ensures.0 c.if-not-is.false)) (c.in_err-q.ensures _))))
+    rw (p.1, p.2) (λ n m. stop (c.loop-seen.invariant.leads n m) (stop (rows_semicolon c.next-x.ensures n m _ (c.is-in-loop-seen.ensures.0 c.if-not-is.false)) (c.in_err-q.ensures _)))
 
 pub returns-in_err-read : goal.returns-in_err-read
 returns-in_err-read c =
     let p = err_from_is_err_and c.from_residual-in_err-read.result c.from_residual-in_err-read.ensures.1 in
-    rw (p.1, p.2) ((λ n m. stop (c.loop-seen.invariant.leads n m) (stop (rows_semicolon c.next-x.ensures n m _ (c.is-in-loop-seen.ensures.0 c.if-not-is.false))
-    (stop (c.in_ok-q.ensures _) (c.in_err-read.ensures (λ x. rows_more n m (c.loop-seen.invariant.list ++ (x ∷ []))))))))
+    rw (p.1, p.2) (λ n m. stop (c.loop-seen.invariant.leads n m) (stop (rows_semicolon c.next-x.ensures n m _ (c.is-in-loop-seen.ensures.0 c.if-not-is.false))
+    (stop (c.in_ok-q.ensures _) (c.in_err-read.ensures (λ x. rows_more n m (c.loop-seen.invariant.list ++ (x ∷ [])))))))
 
 pub loop-seen-preserved : goal.loop-seen-preserved
 loop-seen-preserved c =
