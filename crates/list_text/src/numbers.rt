@@ -20,6 +20,7 @@ fn value(digits: &[u8], place: usize) -> Result<u64, Misread>
     if digits.len() > 12 {
         return Err(Misread { place: place + 12 });
     }
+    // Kept as a loop: `fold` was tried, and that each step's sum fits stayed open.
     let mut n = 0;
     for d in digits {
         n = n * 10 + (*d - b'0') as u64;

@@ -1,5 +1,4 @@
 // Reads ends and windows. Each function answers what it read and the reader behind it, or the place of the fault.
-// For this crate alone: what a function here requires, each of its callers proves.
 ghost use Rattle.std.specs.Prelude.{◌≡◌, ◌<◌, List, [], ◌∷◌, ◌++◌, length, Option as OptionOf};
 ghost use Rattle.spans.specs.declared.minutes.Minutes.{Minutes as MinutesOf};
 ghost use Rattle.networks.specs.declared.window.Window.{Window as WindowOf};
@@ -20,7 +19,6 @@ const MISSING: &[u8] = b"Inf";
 
 // How far into a word that is neither `E` nor `Inf` one can read.
 fn fault_in_word(w: &[u8]) -> usize
-    requires { 0 < length w.now }
     ensures { result ≡ fault_in w.now }
 {
     match w {
