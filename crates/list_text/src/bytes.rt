@@ -1,32 +1,12 @@
-// How far bytes of a class reach.
-ghost use Rattle.std.specs.Prelude.{◌≡◌, ◌≤◌, length};
+// How far bytes of one kind reach.
+ghost use Rattle.std.specs.Prelude.{◌≡◌, ◌≤◌, ℕ, Bool, length};
 ghost use Rattle.std.specs.List.{prefix_len};
-ghost use Rattle.list_text.specs.Grammar.{blank, digit};
-ghost use Rattle.list_text.specs.Lexing.{letter};
 
-// How many blanks stand in front.
-pub(crate) fn blanks(bytes: &[u8]) -> usize
-    ensures many { result ≡ prefix_len blank bytes.now }
+// How many bytes in front pass the test.
+pub(crate) fn front<F: Fn(u8) -> bool>(bytes: &[u8], is_of: F) -> usize
+    requires { F.IsAlwaysCallable is_of }
+    ensures many { (test : ℕ → Bool) → ((b : ℕ) (r : Bool) → F.post is_of b r → r ≡ test b) → result ≡ prefix_len test bytes.now }
     ensures within { result ≤ length bytes.now }
 {
-    bytes
-        .iter()
-        .take_while(|b| matches!(**b, b' ' | b'\t' | b'\n' | b'\r'))
-        .count()
-}
-
-// How many digits stand in front.
-pub(crate) fn digits(bytes: &[u8]) -> usize
-    ensures many { result ≡ prefix_len digit bytes.now }
-    ensures within { result ≤ length bytes.now }
-{
-    bytes.iter().take_while(|b| b.is_ascii_digit()).count()
-}
-
-// How many letters stand in front.
-pub(crate) fn letters(bytes: &[u8]) -> usize
-    ensures many { result ≡ prefix_len letter bytes.now }
-    ensures within { result ≤ length bytes.now }
-{
-    bytes.iter().take_while(|b| b.is_ascii_alphabetic()).count()
+    bytes.iter().take_while(|b| is_of(**b)).count()
 }

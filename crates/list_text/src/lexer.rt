@@ -4,7 +4,7 @@ ghost use Rattle.std.specs.Prelude.{◌≡◌, ◌<◌, ◌≤◌, false, length
 ghost use Rattle.list_text.specs.Grammar.{blank};
 ghost use Rattle.list_text.specs.Lexing.{Cut, Lexed};
 
-use crate::bytes::{blanks, digits, letters};
+use crate::bytes::front;
 use crate::reader::Reader;
 use crate::token::{Lexeme, Mark, Token};
 
@@ -28,11 +28,11 @@ impl<'a> Reader<'a> {
             b',' => (Token::Bracket(Mark::Comma, one), next),
             b';' => (Token::Bracket(Mark::Semicolon, one), next),
             b'-' | b'0'..=b'9' => {
-                let end = next + digits(&text[next..]);
+                let end = next + front(&text[next..], |b| b.is_ascii_digit());
                 (Token::Number(&text[start..end]), end)
             }
             b'A'..=b'Z' | b'a'..=b'z' => {
-                let end = next + letters(&text[next..]);
+                let end = next + front(&text[next..], |b| b.is_ascii_alphabetic());
                 (Token::Word(&text[start..end]), end)
             }
             _ => (Token::Stray(one), next),
@@ -44,7 +44,11 @@ impl<'a> Reader<'a> {
         ensures { Lexed self.entry result }
     {
         let text = self.text;
-        let place = self.at + blanks(&text[self.at..]);
+        let place = self.at
+            + front(
+                &text[self.at..],
+                |b| matches!(b, b' ' | b'\t' | b'\n' | b'\r'),
+            );
         let here = Reader { text, at: place };
         if place == text.len() {
             return Lexeme {
