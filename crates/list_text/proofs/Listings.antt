@@ -1,11 +1,11 @@
 -- How the machine moves through lists of windows and of rows, and what the row that is kept of them shows. Assumes nothing.
-use Rattle.std.proofs.Common.{◌≡◌, ℕ, zero, suc, ◌+◌, ◌-◌, ◌<◌, ◌≤◌, false, cond, eqb, leb, ◌⊎◌, List, [], ◌∷◌, ◌++◌, length, get_or, drop, set, Some, None, Option, Ok, Err, Result, sym, refl, ap, ◌∙◌, subst, inl, inr, ⊎_elim, arith, length-append, length-drop}
+use Rattle.std.proofs.Common.{◌≡◌, ℕ, zero, suc, ◌+◌, ◌-◌, ◌<◌, false, cond, eqb, leb, ◌⊎◌, List, [], ◌∷◌, ◌++◌, length, get_or, drop, set, Some, None, Option, Ok, Err, Result, sym, refl, ap, ◌∙◌, subst, inl, inr, ⊎_elim, arith, length-append, length-drop}
 use Rattle.std.proofs.lemmas.List.{get_or_at, get_or-set_same, get_or-set_other, drop_all}
 use Rattle.std.proofs.lemmas.Bool.{cond-true, cond-false, cases_lt, cases_eq, le-leb, lt-leb}
 use Rattle.spans.specs.declared.minutes.Minutes.{Minutes}
 use Rattle.networks.specs.declared.window.Window.{Window}
 use Rattle.networks.specs.declared.rows.Row.{Row}
-use Rattle.networks.specs.Network.{Condition, no_condition, open_window}
+use Rattle.networks.specs.Network.{Condition, open_window}
 use Rattle.networks.specs.Rows.{room, row_of}
 use Rattle.list_text.specs.declared.token.Mark.TheVariants.{Open, Close, ListOpen, ListClose, Comma, Semicolon}
 use Rattle.list_text.specs.declared.token.Mark.{Mark}
@@ -150,21 +150,9 @@ pub record WindowsSoFar (from p : Reader) (i j pick : ℕ) (r : Row Minutes) : T
   pub shows : Shows (record { from = i; to = j; windows = windows }) pick r
   pub leads : (k : List (Window Minutes) → State) → Leads from (windows_start k) p (in_window windows k)
 
-pub record RowsSoFar (from p : Reader) (j pick count : ℕ) (seen : Row Minutes) : Type 0 where
-  pub few : count ≤ p.at
+pub record RowsSoFar (from p : Reader) : Type 0 where
   pub list : List (Condition Minutes)
-  pub many : count ≡ length list
-  pub shows : Shows (get_or list j no_condition) pick seen
   pub leads : (n m : ℕ) → Leads from (rows_more n m []) p (rows_more n m list)
-
--- one row more: the one that is looked for, or another
-pub row_found : (cs : List (Condition Minutes)) (c : Condition Minutes) (j pick count : ℕ) (r : Row Minutes) → count ≡ length cs → count ≡ j
-    → Shows c pick r → Shows (get_or (cs ++ (c ∷ [])) j no_condition) pick r
-row_found cs c j pick count r many e s = subst (λ y. Shows y pick r) (sym (get_or_at cs c [] no_condition j (sym many ∙ e))) s
-
-pub row_other : (cs : List (Condition Minutes)) (c : Condition Minutes) (j pick count : ℕ) (r : Row Minutes) → count ≡ length cs → (count ≡ j → ⊥)
-    → Shows (get_or cs j no_condition) pick r → Shows (get_or (cs ++ (c ∷ [])) j no_condition) pick r
-row_other cs c j pick count r many ne s = subst (λ y. Shows y pick r) (sym (append_other cs c no_condition j (λ e. ne (many ∙ sym e)))) s
 
 -- ---- the next row, or none
 closes : (o : Option Mark) → (o ≡ Some ListClose) ⊎ (o ≡ Some ListClose → ⊥)
@@ -176,8 +164,8 @@ closes (Some ListClose) = inl refl
 closes (Some Comma) = inr (λ e. grind arith)
 closes (Some Semicolon) = inr (λ e. grind arith)
 
-pub no_row : {r : Reader} {x : Lexeme} → Lexed r x → (mark_of x.token ≡ Some Semicolon → ⊥) → NextRow r None
-no_row {r} {x} h other =
+pub no_row : {r : Reader} {x : Lexeme} → Lexed r x → (mark_of x.token ≡ Some Semicolon → ⊥) → (pick : ℕ) → NextRow r pick None
+no_row {r} {x} h other pick =
     elim (closes (mark_of x.token)) [
       | inl is ↦ inl (x.after, λ n m cs. rows_close h n m cs is)
       | inr not-closed ↦ inr (x.place, λ n m cs. rows_fault h n m cs not-closed other)
@@ -189,13 +177,13 @@ bracket_read {r} {p} (Err e) f some k = absurd (grind arith)
 
 module _ {r : Reader} {x : Lexeme} (h : Lexed r x) (is : mark_of x.token ≡ Some Semicolon) where
   -- a semicolon, and no bracket
-  pub no_bracket : (v : Result Reader Misread) → ((k : State) → Passes x.after (expects Open k) k v) → None ≡ result_ok v → NextRow r None
-  no_bracket (Ok q) f e = absurd (grind arith)
-  no_bracket (Err e) f none = inr (e.place, λ n m cs. stop (rows_semicolon h n m cs is) (f _))
+  pub no_bracket : (v : Result Reader Misread) → ((k : State) → Passes x.after (expects Open k) k v) → None ≡ result_ok v → (pick : ℕ) → NextRow r pick None
+  no_bracket (Ok q) f e pick = absurd (grind arith)
+  no_bracket (Err e) f none pick = inr (e.place, λ n m cs. stop (rows_semicolon h n m cs is) (f _))
 
   -- a semicolon, a bracket, and a row or none
-  pub one_row : {p : Reader} → ((k : State) → Leads x.after (expects Open k) p k) → (v : Result (Row Minutes × Reader) Misread) → ReadsRow p 0 v → NextRow r (result_ok v)
-  one_row {p} bracket (Ok v) (c, s, read) =
+  pub one_row : {p : Reader} (pick : ℕ) → ((k : State) → Leads x.after (expects Open k) p k) → (v : Result (Row Minutes × Reader) Misread) → ReadsRow p pick v → NextRow r pick (result_ok v)
+  one_row {p} pick bracket (Ok v) (c, s, read) =
       let on = mark_onward h _ is in
       let a = (bracket start).onward in
       let b = (read (λ _. start)).onward in (
@@ -204,5 +192,5 @@ module _ {r : Reader} {x : Lexeme} (h : Lexed r x) (is : mark_of x.token ≡ Som
         omega arith,
         λ n m cs. then (rows_semicolon h n m cs is) (then (bracket _) (read (λ d. rows_more n m (cs ++ (d ∷ []))))),
       )
-  one_row {p} bracket (Err e) faults =
+  one_row {p} pick bracket (Err e) faults =
       inr (e.place, λ n m cs. stop (rows_semicolon h n m cs is) (stop (bracket _) (faults (λ d. rows_more n m (cs ++ (d ∷ []))))))

@@ -1,37 +1,34 @@
 -- What a text means as a source: the conditions behind its header. Assumes nothing.
-use Rattle.std.proofs.Common.{◌≡◌, ℕ, ◌<◌, ◌≤◌, List, [], ◌++◌, length, get_or, drop, sym, refl, ap, ◌∙◌, subst, Ok, Err, Result, inl, inr, add-zero, arith}
+use Rattle.std.proofs.Common.{◌≡◌, ℕ, ◌<◌, ◌≤◌, List, [], ◌++◌, length, drop, sym, refl, ap, ◌∙◌, subst, IsTrue, rules, inl, inr, arith}
 use Rattle.std.proofs.lemmas.Bool.{cond-true, le-leb, and_from}
 use Rattle.spans.specs.declared.minutes.Minutes.{Minutes}
-use Rattle.networks.specs.declared.rows.Row.{Row}
-use Rattle.networks.specs.Network.{Condition, Network, no_condition, window_of}
-use Rattle.networks.specs.Rows.{row_of}
+use Rattle.networks.specs.Network.{Condition, Network}
 use Rattle.list_text.specs.Grammar.{Listing, Says, network, Denotes}
 use Rattle.list_text.specs.Place.{longest_text, FaultAt, TurnedAway}
 use Rattle.list_text.specs.Answer.{ReadAs}
-use Rattle.list_text.specs.Machine.{start, run, rows_more, finished, reads, stuck}
-use Rattle.list_text.specs.Reading.{ahead, Leads, Faults, Shows, conditions_of, conditions_from, ReadsAll, Looked, Readable}
-use Rattle.std.specs.Result.{result_unwrap_or}
-use Rattle.list_text.specs.declared.reader.Misread.{Misread}
+use Rattle.list_text.specs.Machine.{Outcome, start, run, rows_more, finished, reads, stuck}
+use Rattle.list_text.specs.Reading.{ahead, Leads, Faults, conditions_of, conditions_from, Readable, ends, reads_rows}
 use Rattle.list_text.specs.declared.reader.Reader.{Reader}
 use Rattle.list_text.proofs.Completions.{accepts}
 use Rattle.list_text.proofs.Readable.{rest_of}
 use Rattle.list_text.proofs.Places.{says_read, fault_stuck, denotes_one, one_place}
 
 -- ---- the conditions from a place on
-pub none_stuck : (r : Reader) (e : ℕ) → Faults r (rows_more 0 0 []) e → conditions_from r.text.now r.at ≡ []
+pub means : (r : Reader) (l : Listing) → run r.at (rows_more 0 0 []) (ahead r) ≡ reads l → conditions_from r.text.now r.at ≡ l.conditions
 unfolding conditions_from
-none_stuck r e h =
-    cond-true _ _ _ (and_from _ _ (le-leb (length r.text.now) longest_text r.inside.short) (le-leb r.at (length r.text.now) r.inside.within)) ∙ ap conditions_of h.faults
-
-pub all_read : (r : Reader) (cs : List (Condition Minutes))
-    → run r.at (rows_more 0 0 []) (ahead r) ≡ reads (record { first = 0; second = 0; conditions = cs }) → conditions_from r.text.now r.at ≡ cs
-unfolding conditions_from
-all_read r cs e =
+means r l e =
     cond-true _ _ _ (and_from _ _ (le-leb (length r.text.now) longest_text r.inside.short) (le-leb r.at (length r.text.now) r.inside.within)) ∙ ap conditions_of e
 
-pub readable : (r : Reader) (cs : List (Condition Minutes))
-    → run r.at (rows_more 0 0 []) (ahead r) ≡ reads (record { first = 0; second = 0; conditions = cs }) → Readable r.text.now r.at
-readable r cs e = record { inside = r.inside; listing = _; reads_it = e; means_it = all_read r cs e }
+pub readable : (r : Reader) → IsTrue (reads_rows r.text.now r.at) → Readable r.text.now r.at
+readable r h = go (run r.at (rows_more 0 0 []) (ahead r)) refl h
+  where
+    go : (o : Outcome) → run r.at (rows_more 0 0 []) (ahead r) ≡ o → IsTrue (ends o) → Readable r.text.now r.at
+    go (reads l) e h = record { inside = r.inside; listing = l; reads_it = e; means_it = means r l e }
+    go (stuck p) e h = absurd (search rules)
+
+-- where rows were read, there are rows
+pub there : (r : Reader) (l : Listing) → run r.at (rows_more 0 0 []) (ahead r) ≡ reads l → IsTrue (reads_rows r.text.now r.at)
+there r l e = subst (λ o. IsTrue (ends o)) (sym e) refl
 
 -- ---- rows of a readable text, read one by one
 module _ (q : Reader) (cs : List (Condition Minutes)) (l : Listing) (e : run q.at (rows_more 0 0 cs) (ahead q) ≡ reads l) where
@@ -50,27 +47,6 @@ module _ (q : Reader) (cs : List (Condition Minutes)) (l : Listing) (e : run q.a
   no_fault p f =
       let g : stuck p ≡ reads l = sym f.faults ∙ e in
       let z : ◌≡◌ {A = ℕ} 0 1 = cc in omega arith
-
--- ---- what a look shows
-pub looked_none : (cs : List (Condition Minutes)) (k w : ℕ) (v : ℕ × Row Minutes) → cs ≡ [] → v ≡ (0, row_of 0 0 []) → Looked cs k w v
-looked_none cs k w v e z =
-    subst (λ cs. Looked cs k w v) (sym e) (subst (Looked [] k w) (sym z)
-    (record { many = refl; from = refl; to = refl; count = refl; window = refl }))
-
-pub looked_shown : (cs ds : List (Condition Minutes)) (k w : ℕ) (v : ℕ × Row Minutes) → cs ≡ ds → length ds ≡ v.0 → Shows (get_or ds k no_condition) w v.1 → Looked cs k w v
-looked_shown cs ds k w v e many s =
-    subst (λ cs. Looked cs k w v) (sym e) (record {
-      many = sym many;
-      from = s.from;
-      to = s.to;
-      count = s.count;
-      window = s.windows 0 (omega arith) ∙ ap (window_of (get_or ds k no_condition)) (add-zero w);
-    })
-
-pub looked : (r : Reader) (k w : ℕ) (v : Result (ℕ × Row Minutes) Misread) (d : ℕ × Row Minutes) → ReadsAll r k w v → d ≡ (0, row_of 0 0 [])
-    → Looked (conditions_from r.text.now r.at) k w (result_unwrap_or v d)
-looked r k w (Ok v) d (cs, many, s, e) is = looked_shown _ cs k w v (all_read r cs (e 0 0)) many s
-looked r k w (Err e) d f is = looked_none _ k w d (none_stuck r e.place (f 0 0)) is
 
 -- ---- the whole text
 pub fault_of : (r : Reader) (e : ℕ) → r.at ≡ 0 → Faults r start e → FaultAt r.text.now e

@@ -1,16 +1,15 @@
 -- What it is to read on: the machine goes from a state at one reader to a state at another, or gets stuck at a place.
 -- `conditions_from` is what a `ListText` means, and `read` promises that this is what its text denotes; `Readable` is what `fill` promises under and `read` promises of what it makes. The others are said by private functions alone. Assumes nothing.
-use Rattle.std.specs.Prelude.{◌≡◌, ℕ, ◌+◌, ◌-◌, ◌<◌, ◌≤◌, cond, ◌&&◌, ◌⊎◌, List, [], ◌∷◌, ◌++◌, length, drop, Some, None, Ok, Err, Option, Result, nat_le, slice_index_or, slice_set}
+use Rattle.std.specs.Prelude.{◌≡◌, ℕ, ◌+◌, ◌-◌, ◌<◌, ◌≤◌, Bool, true, false, cond, ◌&&◌, ◌⊎◌, List, [], ◌∷◌, ◌++◌, length, drop, Some, None, Ok, Err, Option, Result, nat_le, slice_index_or, slice_set}
 use Rattle.spans.specs.declared.minutes.Minutes.{Minutes}
 use Rattle.networks.specs.declared.window.Window.{Window}
 use Rattle.networks.specs.declared.rows.Row.{Row}
 use Rattle.networks.specs.Network.{Condition, no_condition, open_window, window_of}
 use Rattle.networks.specs.Rows.{room}
-use Rattle.list_text.specs.Grammar.{Listing, Says, network}
-use Rattle.list_text.specs.Place.{longest_text, Inside, FaultAt}
+use Rattle.list_text.specs.Grammar.{Listing}
+use Rattle.list_text.specs.Place.{longest_text, Inside}
 use Rattle.list_text.specs.declared.reader.Reader.{Reader}
 use Rattle.list_text.specs.declared.reader.Misread.{Misread}
-use Rattle.list_text.specs.declared.source.ListText.{ListText}
 use Rattle.list_text.specs.Machine.{State, finished, windows_start, in_row, rows_more, run, Outcome, reads, stuck}
 
 -- what is still to be read
@@ -64,19 +63,17 @@ ReadsRow r pick (Ok v) =
     (c : Condition Minutes) × Shows c pick v.0 × ((k : Condition Minutes → State) → Leads r (in_row k) v.1 (k c))
 ReadsRow r pick (Err e) = (k : Condition Minutes → State) → Faults r (in_row k) e.place
 
--- the rows up to the last bracket: how many, and row j
-abbrev pub ReadsRows : Reader → ℕ → ℕ → Result ((ℕ × Row Minutes) × Reader) Misread → Type 0
-ReadsRows r j pick (Ok v) =
-    (cs : List (Condition Minutes)) × (length cs ≡ v.0.0) × Shows (slice_index_or cs j no_condition) pick v.0.1
-    × ((n m : ℕ) → Leads r (rows_more n m []) v.1 (finished (record { first = n; second = m; conditions = cs })))
-ReadsRows r j pick (Err e) = (n m : ℕ) → Faults r (rows_more n m []) e.place
+-- the rows up to the last bracket
+abbrev pub ReadsRows : Reader → Result Reader Misread → Type 0
+ReadsRows r (Ok q) =
+    (cs : List (Condition Minutes)) × ((n m : ℕ) → Leads r (rows_more n m []) q (finished (record { first = n; second = m; conditions = cs })))
+ReadsRows r (Err e) = (n m : ℕ) → Faults r (rows_more n m []) e.place
 
--- the rows up to the end of the text, likewise
-abbrev pub ReadsAll : Reader → ℕ → ℕ → Result (ℕ × Row Minutes) Misread → Type 0
-ReadsAll r j pick (Ok v) =
-    (cs : List (Condition Minutes)) × (length cs ≡ v.0) × Shows (slice_index_or cs j no_condition) pick v.1
-    × ((n m : ℕ) → run r.at (rows_more n m []) (ahead r) ≡ reads (record { first = n; second = m; conditions = cs }))
-ReadsAll r j pick (Err e) = (n m : ℕ) → Faults r (rows_more n m []) e.place
+-- the rows up to the end of the text
+abbrev pub ReadsAll : Reader → Result (Unit {0}) Misread → Type 0
+ReadsAll r (Ok v) =
+    (cs : List (Condition Minutes)) × ((n m : ℕ) → run r.at (rows_more n m []) (ahead r) ≡ reads (record { first = n; second = m; conditions = cs }))
+ReadsAll r (Err e) = (n m : ℕ) → Faults r (rows_more n m []) e.place
 
 -- ---- the source
 abbrev pub conditions_of : Outcome → List (Condition Minutes)
@@ -87,13 +84,21 @@ conditions_of (stuck p) = []
 unfoldable pub conditions_from : List ℕ → ℕ → List (Condition Minutes)
 conditions_from t p = cond (nat_le (length t) longest_text && nat_le p (length t)) (conditions_of (run p (rows_more 0 0 []) (drop p t))) []
 
--- what one look at the rows shows of condition k and its window w
-pub record Looked (cs : List (Condition Minutes)) (k w : ℕ) (v : ℕ × Row Minutes) : Type 0 where
-  pub many : v.0 ≡ length cs
-  pub from : v.1.from ≡ (slice_index_or cs k no_condition).from
-  pub to : v.1.to ≡ (slice_index_or cs k no_condition).to
-  pub count : v.1.count ≡ length (slice_index_or cs k no_condition).windows
-  pub window : v.1.first ≡ window_of (slice_index_or cs k no_condition) w
+-- read to the end, and not stuck
+abbrev pub ends : Outcome → Bool
+ends (reads l) = true
+ends (stuck p) = false
+
+-- whether rows stand in a text from a place on, up to its end
+abbrev pub reads_rows : List ℕ → ℕ → Bool
+reads_rows t p = ends (run p (rows_more 0 0 []) (drop p t))
+
+-- what a row shows of condition k and its window w
+pub record Looked (cs : List (Condition Minutes)) (k w : ℕ) (r : Row Minutes) : Type 0 where
+  pub from : r.from ≡ (slice_index_or cs k no_condition).from
+  pub to : r.to ≡ (slice_index_or cs k no_condition).to
+  pub count : r.count ≡ length (slice_index_or cs k no_condition).windows
+  pub window : r.first ≡ window_of (slice_index_or cs k no_condition) w
 
 -- from the place p on there are rows, up to the end of a text that is not too long, and these are the conditions
 pub record Readable (t : List ℕ) (p : ℕ) : Type 0 where
@@ -102,22 +107,11 @@ pub record Readable (t : List ℕ) (p : ℕ) : Type 0 where
   pub reads_it : run p (rows_more 0 0 []) (drop p t) ≡ reads listing
   pub means_it : conditions_from t p ≡ listing.conditions
 
--- what reading a whole text finds: its points and the place behind its header, or its fault
-abbrev pub Scanned : List ℕ → Result ListText Misread → Type 0
-Scanned t (Ok v) =
-    (l : Listing) × Says t l × ((network l).points ≡ v.points) × (conditions_from v.rows.text.now v.rows.at ≡ l.conditions) × Readable v.rows.text.now v.rows.at
-Scanned t (Err e) = FaultAt t e.place
-
 -- the next row, where there is one; else the last bracket, or a fault
-abbrev pub NextRow : Reader → Option (Row Minutes × Reader) → Type 0
-NextRow r (Some v) =
-    (c : Condition Minutes) × Shows c 0 v.0 × (r.at < v.1.at)
+abbrev pub NextRow : Reader → ℕ → Option (Row Minutes × Reader) → Type 0
+NextRow r pick (Some v) =
+    (c : Condition Minutes) × Shows c pick v.0 × (r.at < v.1.at)
     × ((n m : ℕ) (cs : List (Condition Minutes)) → Leads r (rows_more n m cs) v.1 (rows_more n m (cs ++ (c ∷ []))))
-NextRow r None =
+NextRow r pick None =
     ((q : Reader) × ((n m : ℕ) (cs : List (Condition Minutes)) → Leads r (rows_more n m cs) q (finished (record { first = n; second = m; conditions = cs }))))
     ⊎ ((e : ℕ) × ((n m : ℕ) (cs : List (Condition Minutes)) → Faults r (rows_more n m cs) e))
-
--- the same, where the reader goes on to q
-abbrev pub GivesRow : Reader → Option (Row Minutes) → Reader → Type 0
-GivesRow r (Some row) q = NextRow r (Some (row, q))
-GivesRow r None q = NextRow r None

@@ -80,39 +80,33 @@ impl<'a> Reader<'a> {
         Ok((row, after))
     }
 
-    // The rows up to the last bracket: how many there are, and row number `j` with its windows from `pick` on.
-    fn rows(self, j: usize, pick: usize) -> Result<((usize, Row<Minutes>), Reader<'a>), Misread>
-        ensures { ReadsRows self.entry j pick result }
+    // The reader behind the rows and the last bracket.
+    fn rows(self) -> Result<Reader<'a>, Misread>
+        ensures { ReadsRows self.entry result }
     {
-        let mut seen = Row::new(0, 0, &[]);
-        let mut count = 0;
         let mut p = self;
         loop {
             let x = p.next();
             if x.is(Mark::ListClose) {
-                return Ok(((count, seen), x.after));
+                return Ok(x.after);
             }
             if !x.is(Mark::Semicolon) {
                 return Err(Misread { place: x.place });
             }
             let q = x.after.expect(Mark::Open)?;
-            let (read, s) = q.row(pick)?;
-            if count == j {
-                seen = read;
-            }
-            count += 1;
-            p = s;
+            let (_, after) = q.row(0)?;
+            p = after;
         }
     }
 
-    // The rows up to the end of the text, likewise.
-    pub(crate) fn all_rows(self, j: usize, pick: usize) -> Result<(usize, Row<Minutes>), Misread>
-        ensures { ReadsAll self.entry j pick result }
+    // That there are rows up to the end of the text.
+    pub(crate) fn all_rows(self) -> Result<(), Misread>
+        ensures { ReadsAll self.entry result }
     {
-        let (found, end) = self.rows(j, pick)?;
+        let end = self.rows()?;
         let x = end.next();
         if x.is_finish() {
-            Ok(found)
+            Ok(())
         } else {
             Err(Misread { place: x.place })
         }
@@ -134,15 +128,15 @@ impl<'a> Reader<'a> {
         Ok(((first, second), after))
     }
 
-    // The row behind the next semicolon and the reader behind it; none where no row follows.
-    pub(crate) fn next_row(self) -> Option<(Row<Minutes>, Reader<'a>)>
-        ensures { NextRow self.entry result }
+    // The row behind the next semicolon, with its windows from `pick` on, and the reader behind it; none where no row follows.
+    pub(crate) fn next_row(self, pick: usize) -> Option<(Row<Minutes>, Reader<'a>)>
+        ensures { NextRow self.entry pick result }
     {
         let x = self.next();
         if !x.is(Mark::Semicolon) {
             return None;
         }
         let p = x.after.expect(Mark::Open).ok()?;
-        p.row(0).ok()
+        p.row(pick).ok()
     }
 }

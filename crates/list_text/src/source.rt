@@ -3,21 +3,17 @@ ghost use Rattle.std.specs.Prelude.{◌≡◌, ◌≤◌, length, if◌then◌el
 ghost use Rattle.list_text.specs.Answer.{ReadAs, RefusedText};
 ghost use Rattle.list_text.specs.Filling.{Filled};
 ghost use Rattle.list_text.specs.Place.{longest_text};
-ghost use Rattle.list_text.specs.Reading.{conditions_from, Looked, Readable, Scanned};
+ghost use Rattle.list_text.specs.Reading.{conditions_from, Looked, Readable};
+ghost use Rattle.list_text.specs.Scanning.{Scanned};
 
+use crate::filling::Following;
 use crate::reader::{Misread, Reader};
+use crate::text::ListText;
 use networks::{Fault, Row, Source};
 use spans::Minutes;
 
 // The longest text that is read.
 const LONGEST_TEXT: usize = 65536;
-
-// A text's number of points, and the place behind its header, where its rows begin.
-#[derive(Clone, Copy)]
-pub struct ListText<'a> {
-    points: usize,
-    rows: Reader<'a>,
-}
 
 fn agreed(first: usize, second: usize) -> usize
     ensures { result ≡ (if nat_eq first second then first else 0) }
@@ -31,7 +27,7 @@ fn scan<'a>(text: &'a [u8]) -> Result<ListText<'a>, Misread>
     ensures { Scanned text.now result }
 {
     let ((first, second), rows) = Reader { text, at: 0 }.header()?;
-    rows.all_rows(0, 0)?;
+    rows.all_rows()?;
     Ok(ListText {
         points: agreed(first, second),
         rows,
@@ -39,11 +35,15 @@ fn scan<'a>(text: &'a [u8]) -> Result<ListText<'a>, Misread>
 }
 
 impl ListText<'_> {
-    // How many rows there are, and row k with its window w in first place.
-    fn look(&self, k: usize, w: usize) -> (usize, Row<Minutes>)
+    // Row k with its window w in first place; the row of no condition where there is none.
+    fn row(&self, k: usize, w: usize) -> Row<Minutes>
         ensures { Looked (conditions_from self.now.rows.text.now self.now.rows.at) k w result }
     {
-        self.rows.all_rows(k, w).unwrap_or((0, Row::new(0, 0, &[])))
+        let mut rows = Following {
+            reader: self.rows,
+            pick: w,
+        };
+        rows.nth(k).unwrap_or(Row::new(0, 0, &[]))
     }
 }
 
@@ -87,32 +87,35 @@ impl Source for ListText<'_> {
     }
 
     fn conditions(&self) -> usize {
-        let (count, _) = self.look(0, 0);
-        count
+        let rows = Following {
+            reader: self.rows,
+            pick: 0,
+        };
+        rows.count()
     }
 
     fn from(&self, k: usize) -> usize {
-        let (_, row) = self.look(k, 0);
+        let row = self.row(k, 0);
         row.from
     }
 
     fn to(&self, k: usize) -> usize {
-        let (_, row) = self.look(k, 0);
+        let row = self.row(k, 0);
         row.to
     }
 
     fn windows(&self, k: usize) -> usize {
-        let (_, row) = self.look(k, 0);
+        let row = self.row(k, 0);
         row.count
     }
 
     fn low(&self, k: usize, w: usize) -> Option<Minutes> {
-        let (_, row) = self.look(k, w);
+        let row = self.row(k, w);
         row.first.low
     }
 
     fn high(&self, k: usize, w: usize) -> Option<Minutes> {
-        let (_, row) = self.look(k, w);
+        let row = self.row(k, w);
         row.first.high
     }
 }

@@ -2,7 +2,7 @@ use Rattle.std.proofs.Common.{sym, refl}
 use Rattle.std.proofs.lemmas.Result.{err_from_is_err_and}
 use Rattle.list_text.specs.Grammar.{Listing}
 use Rattle.list_text.proofs.Moves.{stop}
-use Rattle.list_text.proofs.Texts.{fault_of, says_of, all_read, readable}
+use Rattle.list_text.proofs.Texts.{fault_of, says_of, means, there}
 use Rattle.list_text.proofs.source.scan.Goals as goal
 
 pub returns-in_err-first : goal.returns-in_err-first
@@ -20,8 +20,10 @@ returns c =
     let r = c.in_ok-all_rows.ensures in
     let l : Listing = record { first = c.in_ok-first.first; second = c.in_ok-first.second; conditions = r.0 } in (
       l,
-      says_of _ _ l refl c.in_ok-first.ensures (r.3 _ _),
+      says_of _ _ l refl c.in_ok-first.ensures (r.1 _ _),
       sym c.agreed.ensures,
-      all_read c.in_ok-first.rows r.0 (r.3 0 0),
-      readable c.in_ok-first.rows r.0 (r.3 0 0),
+      means c.in_ok-first.rows _ (r.1 0 0),
     )
+
+pub invariant_of-result : goal.invariant_of-result
+invariant_of-result c = let r = c.in_ok-all_rows.ensures in record { readable = there c.in_ok-first.rows _ (r.1 0 0) }

@@ -6,9 +6,9 @@ use Rattle.list_text.proofs.reader.Reader.all_rows.Goals as goal
 
 pub returns-then-is_finish : goal.returns-then-is_finish
 returns-then-is_finish c =
-    let r = c.in_ok-found.ensures in
-    (r.0, r.1, r.2, λ n m. (r.3 n m).leads ∙ at_finish c.next-x.ensures _ (c.is_finish.ensures.0 c.if-is_finish.true))
+    let r = c.in_ok-end.ensures in
+    (r.0, λ n m. (r.1 n m).leads ∙ at_finish c.next-x.ensures _ (c.is_finish.ensures.0 c.if-is_finish.true))
 
 pub returns-else-is_finish : goal.returns-else-is_finish
-returns-else-is_finish c = λ n m. stop (c.in_ok-found.ensures.3 n m)
+returns-else-is_finish c = λ n m. stop (c.in_ok-end.ensures.1 n m)
     (not_finish c.next-x.ensures _ (λ e. both_ways _ c.if-is_finish.false (c.is_finish.ensures.1 e)))
