@@ -14,7 +14,7 @@ use Rattle.networks.specs.declared.rows.Row.{Row}
 use Rattle.networks.specs.Network.{Condition, window_of}
 use Rattle.networks.specs.Rows.{row_of}
 use Rattle.list_text.specs.declared.reader.Reader.{Reader}
-use Rattle.list_text.specs.declared.filling.Following.{Following}
+use Rattle.list_text.specs.declared.following.Following.{Following}
 use Rattle.list_text.specs.Grammar.{Listing}
 use Rattle.list_text.specs.Filling.{condition_row, Filled}
 use Rattle.list_text.specs.Machine.{rows_more, run, reads}

@@ -6,7 +6,7 @@ use Rattle.list_text.specs.Grammar.{Listing, Says, network}
 use Rattle.list_text.specs.Place.{FaultAt}
 use Rattle.list_text.specs.Reading.{conditions_from, NextRow}
 use Rattle.list_text.specs.declared.reader.Misread.{Misread}
-use Rattle.list_text.specs.declared.filling.Following.{Following}
+use Rattle.list_text.specs.declared.following.Following.{Following}
 use Rattle.list_text.specs.declared.text.ListText.{ListText}
 
 -- its points and the place behind its header, or its fault

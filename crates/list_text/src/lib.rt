@@ -3,7 +3,7 @@
 #![tactic(auto)]
 
 mod bytes;
-mod filling;
+mod following;
 mod lexer;
 mod numbers;
 mod reader;

@@ -3,10 +3,10 @@ ghost use Rattle.std.specs.Prelude.{◌≡◌, ◌≤◌, length, if◌then◌el
 ghost use Rattle.list_text.specs.Answer.{ReadAs, RefusedText};
 ghost use Rattle.list_text.specs.Filling.{Filled};
 ghost use Rattle.list_text.specs.Place.{longest_text};
-ghost use Rattle.list_text.specs.Reading.{conditions_from, Looked, Readable};
+ghost use Rattle.list_text.specs.Reading.{conditions_from, Looked};
 ghost use Rattle.list_text.specs.Scanning.{Scanned};
 
-use crate::filling::Following;
+use crate::following::Following;
 use crate::reader::{Misread, Reader};
 use crate::text::ListText;
 use networks::{Fault, Row, Source};
@@ -49,21 +49,16 @@ impl ListText<'_> {
 
 // A source made of a list text.
 pub trait FromText<'a>: Source<Span = Minutes> {
-    // That all its rows can be read; so it is for each source that `read` makes.
-    ghost readable: { Self → Type 0 };
-
     // The text as a source of the network that it denotes; else refusal 12 with the place of its fault.
     fn read(text: &'a [u8]) -> Result<Self, Fault>
-        ensures { MatchResult result (λ s. ReadAs text.now (Self.Source.means s) × readable s) (λ f. RefusedText text.now f) };
+        ensures { MatchResult result (λ s. ReadAs text.now (Self.Source.means s)) (λ f. RefusedText text.now f) };
 
     // Copies the conditions from number `first` on to the front of the rows, as many as there are and as have room; how many.
     fn fill(&self, first: usize, rows: &mut [Row<Minutes>]) -> usize
-        ensures { readable self.now → Filled (Self.Source.means self.now).conditions first rows.old rows.new result };
+        ensures { Filled (Self.Source.means self.now).conditions first rows.old rows.new result };
 }
 
 impl<'a> FromText<'a> for ListText<'a> {
-    ghost readable = { λ s. Readable s.rows.text.now s.rows.at };
-
     fn read(text: &'a [u8]) -> Result<ListText<'a>, Fault> {
         if text.len() > LONGEST_TEXT {
             return Err(Fault::Text(LONGEST_TEXT));
@@ -72,7 +67,18 @@ impl<'a> FromText<'a> for ListText<'a> {
     }
 
     fn fill(&self, first: usize, rows: &mut [Row<Minutes>]) -> usize {
-        self.rows.fill_rows(first, rows)
+        let mut following = Following {
+            reader: self.rows,
+            pick: 0,
+        }
+        .skip(first);
+        for (filled, slot) in rows.iter_mut().enumerate() {
+            let Some(row) = following.next() else {
+                return filled;
+            };
+            *slot = row;
+        }
+        rows.len()
     }
 }
 

@@ -1,6 +1,6 @@
 use Rattle.std.proofs.Common.{refl, inl, inr}
 use Rattle.std.proofs.lemmas.Result.{err_from_is_err_and}
-use Rattle.list_text.proofs.Texts.{readable, read_as, too_long_once, fault_once}
+use Rattle.list_text.proofs.Texts.{read_as, too_long_once, fault_once}
 use Rattle.list_text.proofs.source.ListTextFromText.read.Goals as goal
 
 pub returns-then-text-gt-LONGEST_TEXT : goal.returns-then-text-gt-LONGEST_TEXT
@@ -24,4 +24,4 @@ returns-in_err-scan c =
 pub returns : goal.returns
 returns c =
     let h = c.in_ok-scan.ensures in
-    (read_as _ h.0 _ _ c.if-text-gt-LONGEST_TEXT.false h.1 h.2 h.3, readable c.in_ok-scan.field-0.rows c.in_ok-scan.field-0.readable)
+    read_as _ h.0 _ _ c.if-text-gt-LONGEST_TEXT.false h.1 h.2 h.3

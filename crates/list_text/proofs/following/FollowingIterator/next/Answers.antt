@@ -1,6 +1,6 @@
 use Rattle.std.proofs.Common.{[]}
 use Rattle.list_text.proofs.Moves.{nearer}
-use Rattle.list_text.proofs.filling.FollowingIterator.next.Goals as goal
+use Rattle.list_text.proofs.following.FollowingIterator.next.Goals as goal
 
 pub returns-clause-goes : goal.returns-clause-goes
 returns-clause-goes c =
