@@ -1,5 +1,5 @@
 -- What it is to read on: the machine goes from a state at one reader to a state at another, or gets stuck at a place.
--- `conditions_from` is what a `ListText` means, and `read` promises that this is what its text denotes; `Readable` is what `fill` promises under and `read` promises of what it makes. The others are said by private functions alone. Assumes nothing.
+-- `conditions_from` is what a `ListText` means, and `read` promises that this is what its text denotes; `reads_rows` holds of each `ListText`. The others are said by private functions alone, or by proofs. Assumes nothing.
 use Rattle.std.specs.Prelude.{◌≡◌, ℕ, ◌+◌, ◌-◌, ◌<◌, ◌≤◌, Bool, true, false, cond, ◌&&◌, ◌⊎◌, List, [], ◌∷◌, ◌++◌, length, drop, Some, None, Ok, Err, Option, Result, nat_le, slice_index_or, slice_set}
 use Rattle.spans.specs.declared.minutes.Minutes.{Minutes}
 use Rattle.networks.specs.declared.window.Window.{Window}

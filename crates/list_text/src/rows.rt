@@ -1,5 +1,5 @@
 // Reads rows and the header. Each function answers what it read and the reader behind it, or the place of the fault.
-// For this crate alone: what a function here requires, each of its callers proves.
+// What `one_more` requires, its caller proves.
 ghost use Rattle.std.specs.Prelude.{◌≡◌, ◌<◌, [], slice_set};
 ghost use Rattle.networks.specs.Rows.{room};
 ghost use Rattle.list_text.specs.Machine.{start, rows_more};
@@ -51,6 +51,7 @@ impl<'a> Reader<'a> {
         if !x.is(Mark::Open) {
             return Err(Misread { place: x.place });
         }
+        // Kept as a loop: it tells the place of a fault, which an iterator of windows would end at.
         let mut p = x.after;
         loop {
             let (w, q) = p.window()?;
@@ -84,6 +85,7 @@ impl<'a> Reader<'a> {
     fn rows(self) -> Result<Reader<'a>, Misread>
         ensures { ReadsRows self.entry result }
     {
+        // Kept as a loop: it tells the place of a fault, which the iterator of rows ends at.
         let mut p = self;
         loop {
             let x = p.next();

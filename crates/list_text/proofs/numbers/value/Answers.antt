@@ -8,9 +8,6 @@ use Rattle.list_text.proofs.numbers.value.Goals as goal
 pub overflow_mul-n : goal.overflow_mul-n
 overflow_mul-n c = omega (arith, ten_to c.loop-d.d-index (omega arith))
 
-pub overflow_sub-n : goal.overflow_sub-n
-overflow_sub-n c = (digit_at c.args.digits.now c.loop-d.d-index c.requires.0 (omega arith)).0
-
 pub overflow_add-n : goal.overflow_add-n
 overflow_add-n c =
     omega (arith, ten_to c.loop-d.d-index (omega arith), (digit_at c.args.digits.now c.loop-d.d-index c.requires.0 (omega arith)).1)

@@ -13,11 +13,11 @@ loop-point-init c = so_far_header _ _ c.in_ok-text.ensures
 pub loop-point-preserved : goal.loop-point-preserved
 loop-point-preserved c =
     let more : string_bytes c.push_str.new.self ≡ string_bytes c.loop-point.text ++ string_bytes c.in_ok-one.one = search rules in
-    let road = YieldsList-from_skip 1 (YieldsList-from_enumerate (YieldsList-from_slice c.args.dates.now (cc)) (cc)) (cc) in
-    let turn = YieldsList-turn road c.loop-point.yielded _ c.loop-point.yielded_by _ _ (c.in-Some.point, c.in-Some.date) c.in-Some.is c.next.ensures.steps in
     let n = length_push c.loop-point.yielded (c.in-Some.point, c.in-Some.date) in
     let Now : ℕ → Type 0 = λ k. SoFar c.args.dates.now k (string_bytes c.loop-point.text ++ string_bytes c.in_ok-one.one) in
     let on : (1 + length c.loop-point.yielded) + 1 ≡ 1 + length (c.loop-point.yielded ++ ((c.in-Some.point, c.in-Some.date) ∷ [])) = omega (arith, n) in
+    let road = YieldsList-from_skip 1 (YieldsList-from_enumerate (YieldsList-from_slice c.args.dates.now (cc)) (cc)) (cc) in
+    let turn = YieldsList-turn road c.loop-point.yielded _ c.loop-point.yielded_by _ _ (c.in-Some.point, c.in-Some.date) c.in-Some.is c.next.ensures.steps in
     let next = so_far_next _ _ _ _ _ _ turn c.in_ok-one.ensures c.loop-point.invariant in
     subst (SoFar c.args.dates.now _) (sym more) (subst Now on next)
 
