@@ -1,146 +1,162 @@
 -- Filling rows one by one with the conditions of a text. Assumes nothing.
-use Rattle.std.proofs.Common.{◌≡◌, ℕ, zero, suc, ◌+◌, ◌-◌, ◌<◌, ◌≤◌, List, [], ◌∷◌, ◌++◌, map, length, get_or, take, drop, set, None, sym, refl, ap, ◌∙◌, subst, inl, inr, append_assoc, arith, length-append, length-drop}
-use Rattle.std.proofs.lemmas.List.{length-map, map-append, drop-append-le, drop_all, drop_more, set_at, take_all, take-append-le}
+use Rattle.std.proofs.Common.{◌≡◌, ℕ, zero, suc, slice_get, option_map, add-zero, ◌+◌, ◌-◌, ◌<◌, ◌≤◌, ◌⊎◌, List, [], ◌∷◌, ◌++◌, map, length, get_or, take, drop, set, Some, None, Option, sym, refl, ap, ◌∙◌, subst, inl, inr, ⊎_elim, append_assoc, arith, length-append, length-drop, length-take}
+use Rattle.std.proofs.lemmas.List.{length-map, append_cancel_left, drop_all, drop_more, set_at, take_all, take_more, drop-map, take-map}
 use Rattle.std.proofs.lemmas.Bool.{cases_lt}
+use Rattle.std.proofs.lemmas.Iterator.{YieldsList}
+use Rattle.std.proofs.lemmas.Iterator.Adapters.{YieldsList-from_skip, option_map_id}
+use Rattle.std.proofs.lemmas.Iterator.Consumers.{YieldsList-at, nth_from_yields_List, count_from_yields_List}
+use Rattle.std.specs.Iterator.{AlwaysYields, SkipsThenYields, Drains}
+use Rattle.std.specs.Option.{unwrap_or}
+use Rattle.std.specs.Iterator.Adapters.{skip_steps, skip_source, skip_count}
+use Rattle.std.specs.declared.iter.Skip.{Skip}
 use Rattle.spans.specs.declared.minutes.Minutes.{Minutes}
 use Rattle.networks.specs.declared.rows.Row.{Row}
 use Rattle.networks.specs.Network.{Condition, window_of}
-use Rattle.networks.specs.Rows.{room}
+use Rattle.networks.specs.Rows.{row_of}
+use Rattle.list_text.specs.declared.reader.Reader.{Reader}
+use Rattle.list_text.specs.declared.following.Following.{Following}
+use Rattle.list_text.specs.Grammar.{Listing}
 use Rattle.list_text.specs.Filling.{condition_row, Filled}
-use Rattle.list_text.specs.Machine.{rows_more}
-use Rattle.list_text.specs.Reading.{Leads, Behind, Shows, conditions_from, Readable, NextRow}
+use Rattle.list_text.specs.Machine.{rows_more, run, reads}
+use Rattle.list_text.specs.Reading.{ahead, Shows, conditions_from, Looked, Readable, NextRow}
+use Rattle.list_text.specs.Scanning.{GivesRow}
 use Rattle.list_text.proofs.Texts.{front_read, all_front, no_fault}
 
--- a row that shows a condition from its first window on is its row
-pub shown_row : (c : Condition Minutes) (r : Row Minutes) → Shows c 0 r → r ≡ condition_row c
-shown_row c r s =
-    let a : r.first ≡ window_of c 0 = s.windows 0 (omega arith) in
-    let b : r.second ≡ window_of c 1 = s.windows 1 (omega arith) in
-    let d : r.third ≡ window_of c 2 = s.windows 2 (omega arith) in
-    let e : r.fourth ≡ window_of c 3 = s.windows 3 (omega arith) in
+-- the row that shows a condition from a window on
+abbrev pub picked_row : ℕ → Condition Minutes → Row Minutes
+picked_row p c = record {
+  from = c.from;
+  to = c.to;
+  count = length c.windows;
+  first = window_of c p;
+  second = window_of c (p + 1);
+  third = window_of c (p + 2);
+  fourth = window_of c (p + 3);
+}
+
+picked : (p : ℕ) (c : Condition Minutes) (r : Row Minutes) → Shows c p r → r ≡ picked_row p c
+picked p c r s =
+    let a : r.first ≡ window_of c p = s.windows 0 (omega arith) ∙ ap (window_of c) (add-zero p) in
+    let b : r.second ≡ window_of c (p + 1) = s.windows 1 (omega arith) in
+    let d : r.third ≡ window_of c (p + 2) = s.windows 2 (omega arith) in
+    let e : r.fourth ≡ window_of c (p + 3) = s.windows 3 (omega arith) in
     let f = s.from in
     let g = s.to in
     let h = s.count in
-    let same : record { from = r.from; to = r.to; count = r.count; first = r.first; second = r.second; third = r.third; fourth = r.fourth } ≡ condition_row c = cc in
+    let same : record { from = r.from; to = r.to; count = r.count; first = r.first; second = r.second; third = r.third; fourth = r.fourth } ≡ picked_row p c = cc in
     same
 
-pub record FillSoFar (t : List ℕ) (from p first count filled : ℕ) (old new : List (Row Minutes)) : Type 0 where
-  pub behind : Behind t from p
-  pub few : count ≤ p
-  pub list : List (Condition Minutes)
-  pub many : count ≡ length list
-  pub so_many : filled ≡ count - first
-  pub fits : filled ≤ length old
-  pub rows : new ≡ map condition_row (drop first list) ++ drop filled old
-  pub leads : Leads t from (rows_more 0 0 []) p (rows_more 0 0 list)
+-- ---- the rows that follow are the rows of the conditions
+front_same : (cs ds es : List (Condition Minutes)) (c d : Condition Minutes) → cs ++ (d ∷ ds) ≡ (cs ++ (c ∷ [])) ++ es → c ≡ d
+front_same cs ds es c d e =
+    let h : d ∷ ds ≡ c ∷ es = append_cancel_left cs (d ∷ ds) (c ∷ es) (e ∙ append_assoc cs (c ∷ []) es) in cc
 
-drop_none : {X : Type 0} (n : ℕ) → drop {A = X} n [] ≡ []
-drop_none zero = refl
-drop_none (suc n) = refl
+-- s gives the rows of these conditions
+abbrev pub GivesRows : Following → List (Condition Minutes) → Type 0
+GivesRows s cs = YieldsList GivesRow (λ x. x) s (map (picked_row s.pick) cs)
 
-pub fill_none : (first : ℕ) (old : List (Row Minutes)) → old ≡ map condition_row (drop first []) ++ drop 0 old
-fill_none first old = sym (ap (λ cs. map condition_row cs ++ old) (drop_none first))
+follows : (s : Following) (cs ds : List (Condition Minutes)) (l : Listing) → run s.reader.at (rows_more 0 0 cs) (ahead s.reader) ≡ reads l → l.conditions ≡ cs ++ ds
+    → AlwaysYields GivesRow (λ x. x) s (map (picked_row s.pick) ds)
+follows s cs [] l e is = λ x t given.
+    let (c, shows, on, leads) = given.next in
+    let front = front_read t.reader (cs ++ (c ∷ [])) l (sym (leads 0 0 cs).leads ∙ e) in
+    let n : length (cs ++ []) ≡ length ((cs ++ (c ∷ [])) ++ front.0) = ap length (sym is ∙ front.1) in
+    let a = length-append cs [] in
+    let b = length-append (cs ++ (c ∷ [])) front.0 in
+    let d = length-append cs (c ∷ []) in
+    absurd (omega arith)
+follows s cs (d ∷ ds) l e is = (
+  λ t none. absurd (more none),
+  λ x t given.
+      let (c, shows, on, leads) = given.next in
+      let e' : run t.reader.at (rows_more 0 0 (cs ++ (c ∷ []))) (ahead t.reader) ≡ reads l = sym (leads 0 0 cs).leads ∙ e in
+      let front = front_read t.reader (cs ++ (c ∷ [])) l e' in
+      let same : c ≡ d = front_same cs ds front.0 c d (sym is ∙ front.1) in
+      let rest = follows t (cs ++ (c ∷ [])) ds l e' (is ∙ ap (λ c. cs ++ (c ∷ ds)) (sym same) ∙ sym (append_assoc cs (c ∷ []) ds)) in
+      (picked s.pick c x shows ∙ ap (picked_row s.pick) same, subst (λ p. AlwaysYields GivesRow (λ x. x) t (map (picked_row p) ds)) given.pick rest),
+)
+  where
+    more : NextRow s.reader s.pick None → ⊥
+    more (inl (u, h)) =
+        let n : length (cs ++ (d ∷ ds)) ≡ length cs = ap length (sym is ∙ all_front s.reader cs l e u (h 0 0 cs)) in
+        let a = length-append cs (d ∷ ds) in
+        omega arith
+    more (inr (p, h)) = no_fault s.reader cs l e p (h 0 0 cs)
 
-module _ (first : ℕ) (cs : List (Condition Minutes)) (c : Condition Minutes) (filled : ℕ) (old new : List (Row Minutes))
-    (rows : new ≡ map condition_row (drop first cs) ++ drop filled old) where
-  -- a condition before the first that is wanted
-  pub fill_past : length cs < first → filled ≡ 0 → new ≡ map condition_row (drop first (cs ++ (c ∷ []))) ++ drop filled old
-  fill_past h z =
-      let l = length-append cs (c ∷ []) in
-      rows ∙ ap (λ ds. map condition_row ds ++ drop filled old) (drop_all first cs (omega arith) ∙ sym (drop_all first (cs ++ (c ∷ [])) (omega arith)))
+pub gives_rows : (s : Following) → Readable s.reader.text.now s.reader.at → GivesRows s (conditions_from s.reader.text.now s.reader.at)
+gives_rows s i = subst (GivesRows s) (sym i.means_it) (record { runs = follows s [] i.listing.conditions i.listing i.reads_it refl })
 
-  -- one that is wanted
-  pub fill_more : first ≤ length cs → filled ≡ length cs - first → filled < length old
-      → set new filled (condition_row c) ≡ map condition_row (drop first (cs ++ (c ∷ []))) ++ drop (filled + 1) old
-  fill_more h z lt =
-      let A = map condition_row (drop first cs) in
-      let row = condition_row c in
-      let la : length A ≡ filled = length-map (drop first cs) condition_row ∙ length-drop first cs ∙ sym z in
-      ap (λ xs. set xs filled row) (rows ∙ ap (λ ys. A ++ ys) (drop_more old filled row lt))
-      ∙ set_at A (get_or old filled row) (drop (filled + 1) old) row filled la
-      ∙ sym (append_assoc A (row ∷ []) (drop (filled + 1) old))
-      ∙ ap (λ xs. xs ++ drop (filled + 1) old) (sym (map-append condition_row (drop first cs) (c ∷ [])))
-      ∙ ap (λ ds. map condition_row ds ++ drop (filled + 1) old) (sym (drop-append-le first cs (c ∷ []) h))
+-- ---- one of them
+shown : (cs : List (Condition Minutes)) (k w : ℕ) (o : Option (Row Minutes)) → o ≡ slice_get (map (picked_row w) cs) k → Looked cs k w (unwrap_or o (row_of 0 0 []))
+shown [] k w o e = subst (λ o. Looked [] k w (unwrap_or o (row_of 0 0 []))) (sym e) (record { from = refl; to = refl; count = refl; window = refl })
+shown (c ∷ cs) zero w o e = subst (λ o. Looked (c ∷ cs) 0 w (unwrap_or o (row_of 0 0 []))) (sym e) (record { from = refl; to = refl; count = refl; window = refl })
+shown (c ∷ cs) (suc k) w o e = let h = shown cs k w o e in record { from = h.from; to = h.to; count = h.count; window = h.window }
 
-front_taken : (first : ℕ) (cs ds : List (Condition Minutes)) (filled : ℕ) → filled ≡ length cs - first → take filled (drop first (cs ++ ds)) ≡ drop first cs
-front_taken first cs ds filled z = elim (cases_lt (length cs) first) [
-  | inl h ↦ let n : filled ≡ 0 = omega arith in ap (λ n. take n (drop first (cs ++ ds))) n ∙ sym (drop_all first cs (omega arith))
-  | inr h ↦
-      let l = length-drop first cs in
-      ap (take filled) (drop-append-le first cs ds h) ∙ take-append-le filled (drop first cs) ds (omega arith) ∙ take_all filled (drop first cs) (omega arith)
-]
+pub looked : (s u : Following) (k : ℕ) (o : Option (Row Minutes)) (d : Row Minutes) (cs : List (Condition Minutes)) → GivesRows s cs
+    → SkipsThenYields GivesRow s k o u → d ≡ row_of 0 0 [] → Looked cs k s.pick (unwrap_or o d)
+looked s u k o d cs h ran none =
+    let e : option_map (λ x. x) o ≡ slice_get (map (picked_row s.pick) cs) k = nth_from_yields_List o u k ran h in
+    subst (λ d. Looked cs k s.pick (unwrap_or o d)) (sym none) (shown cs k s.pick o (sym (option_map_id o) ∙ e))
 
--- the room is full
-pub fill_full : (first : ℕ) (all cs ds : List (Condition Minutes)) (filled : ℕ) (old new : List (Row Minutes)) → all ≡ cs ++ ds
-    → filled ≡ length cs - first → filled ≤ length old → length old ≤ filled → new ≡ map condition_row (drop first cs) ++ drop filled old → Filled all first old new filled
-fill_full first all cs ds filled old new e z fits full rows =
-    let l = length-append cs ds in
-    let one : length old ≡ filled = omega arith in
-    subst (λ a. Filled a first old new filled) (sym e) (record {
-      count = omega arith;
-      rows = rows ∙ ap (λ xs. map condition_row xs ++ drop filled old) (sym (ap (λ n. take n (drop first (cs ++ ds))) one ∙ front_taken first cs ds filled z));
-    })
+-- ---- row by row
+-- the rows that are to be copied
+abbrev pub wanted : List ℕ → ℕ → ℕ → List (Row Minutes)
+wanted t p first = drop first (map (picked_row 0) (conditions_from t p))
 
--- all conditions are read
-pub fill_all : (first : ℕ) (all cs : List (Condition Minutes)) (filled : ℕ) (old new : List (Row Minutes)) → all ≡ cs
-    → filled ≡ length cs - first → filled ≤ length old → new ≡ map condition_row (drop first cs) ++ drop filled old → Filled all first old new filled
-fill_all first all cs filled old new e z fits rows = subst (λ a. Filled a first old new filled) (sym e) (record {
-  count = omega arith;
-  rows = rows ∙ ap (λ ds. map condition_row ds ++ drop filled old) (sym (take_all (length old) (drop first cs) (let l = length-drop first cs in omega arith)));
-})
+pub record FillSoFar (rows : List (Row Minutes)) (filled : ℕ) (old new : List (Row Minutes)) (s : Skip Following) : Type 0 where
+  pub enough : filled ≤ length rows
+  pub is : new ≡ take filled rows ++ drop filled old
+  pub left : AlwaysYields (skip_steps GivesRow) (λ x. x) s (drop filled rows)
 
--- ---- one step: the row at p is read
-module _ (t : List ℕ) (from p first count filled : ℕ) (old new : List (Row Minutes)) (f : FillSoFar t from p first count filled old new)
-    (c : Condition Minutes) (r : Row Minutes) (q : ℕ) (s : Shows c 0 r) (on : p < q) (within : q ≤ length t)
-    (leads : (n m : ℕ) (cs : List (Condition Minutes)) → Leads t p (rows_more n m cs) q (rows_more n m (cs ++ (c ∷ [])))) where
-  behind_more : Behind t from q
-  behind_more = let a = f.behind.onward in record { onward = omega arith; within = within }
+pub fill_none : (r : Reader) (first : ℕ) (old : List (Row Minutes)) (s : Skip Following) → skip_source s ≡ record { reader = r; pick = 0 } → skip_count s ≡ first
+    → Readable r.text.now r.at → FillSoFar (wanted r.text.now r.at first) 0 old old s
+fill_none r first old s source count i =
+    let road : YieldsList (skip_steps GivesRow) (λ x. x) s (wanted r.text.now r.at first) =
+    YieldsList-from_skip {steps = GivesRow} {v = λ x. x} first (YieldsList-at source (gives_rows (record { reader = r; pick = 0 }) i)) count in
+    record { enough = omega arith; is = refl; left = road.runs }
 
-  leads_more : Leads t from (rows_more 0 0 []) q (rows_more 0 0 (f.list ++ (c ∷ [])))
-  leads_more = record { leads = f.leads.leads ∙ (leads 0 0 f.list).leads }
+module _ (rows : List (Row Minutes)) (filled : ℕ) (old new : List (Row Minutes)) (s t : Skip Following) (f : FillSoFar rows filled old new s) where
+  pub fill_more : (row : Row Minutes) → skip_steps GivesRow s (Some row) t → filled < length old → FillSoFar rows (filled + 1) old (set new filled row) t
+  fill_more row step room = elim (cases_lt filled (length rows)) [
+    | inl lt ↦
+        let h = subst (AlwaysYields (skip_steps GivesRow) (λ x. x) s) (drop_more rows filled row lt) f.left in
+        let next = h.1 row t step in
+        let n = length-take filled rows in
+        let few : length (take filled rows) ≡ filled = omega arith in
+        record {
+          enough = omega arith;
+          is = ap (λ xs. set xs filled row) (f.is ∙ ap (λ ys. take filled rows ++ ys) (drop_more old filled row room))
+              ∙ set_at (take filled rows) (get_or old filled row) (drop (filled + 1) old) row filled few
+              ∙ sym (append_assoc (take filled rows) (row ∷ []) (drop (filled + 1) old))
+              ∙ ap (λ x. (take filled rows ++ (x ∷ [])) ++ drop (filled + 1) old) next.0
+              ∙ ap (λ xs. xs ++ drop (filled + 1) old) (sym (take_more rows filled row lt));
+          left = next.1;
+        }
+    | inr ge ↦ absurd (subst (AlwaysYields (skip_steps GivesRow) (λ x. x) s) (drop_all filled rows ge) f.left row t step)
+  ]
 
-  step : (filled' : ℕ) (new' : List (Row Minutes)) → filled' ≡ (count + 1) - first → filled' ≤ length old
-      → new' ≡ map condition_row (drop first (f.list ++ (c ∷ []))) ++ drop filled' old → FillSoFar t from q first (count + 1) filled' old new'
-  step filled' new' so_many fits rows =
-      let few = f.few in
-      let many = f.many in
-      let l = length-append f.list (c ∷ []) in
-      record {
-        behind = behind_more;
-        few = omega arith;
-        list = f.list ++ (c ∷ []);
-        many = omega arith;
-        so_many = so_many;
-        fits = fits;
-        rows = rows;
-        leads = leads_more;
-      }
+  pub none_left : skip_steps GivesRow s None t → length rows ≤ filled
+  none_left step = elim (cases_lt filled (length rows)) [
+    | inl lt ↦ absurd ((subst (AlwaysYields (skip_steps GivesRow) (λ x. x) s) (drop_more rows filled (get_or rows filled (row_of 0 0 [])) lt) f.left).0 t step)
+    | inr ge ↦ ge
+  ]
 
-  pub step_past : count < first → FillSoFar t from q first (count + 1) filled old new
-  step_past h =
-      let many = f.many in
-      let z = f.so_many in
-      step filled new (omega arith) f.fits (fill_past first f.list c filled old new f.rows (omega arith) (omega arith))
+-- no room is left, or no row
+pub filled_all : (t : List ℕ) (p first filled : ℕ) (old new : List (Row Minutes)) (s : Skip Following) → FillSoFar (wanted t p first) filled old new s
+    → filled ≤ length old → (filled ≡ length old) ⊎ (length (wanted t p first) ≤ filled) → Filled (conditions_from t p) first old new filled
+filled_all t p first filled old new s f fits end =
+    let cs = conditions_from t p in
+    let w = wanted t p first in
+    let n : length w ≡ length cs - first = length-drop first (map (picked_row 0) cs) ∙ ap (λ n. n - first) (length-map cs (picked_row 0)) in
+    let enough = f.enough in
+    let same : take filled w ≡ take (length old) w = ⊎_elim (λ e. ap (λ n. take n w) e) (λ le. take_all filled w le ∙ sym (take_all (length old) w (omega arith))) end in
+    let mapped : take (length old) w ≡ map condition_row (take (length old) (drop first cs)) =
+    ap (take (length old)) (drop-map (picked_row 0) first cs) ∙ take-map (picked_row 0) (length old) (drop first cs) in
+    record {
+      count = ⊎_elim (λ e. omega arith) (λ le. omega arith) end;
+      rows = f.is ∙ ap (λ xs. xs ++ drop filled old) (same ∙ mapped);
+    }
 
-  pub step_more : first ≤ count → filled < length old → FillSoFar t from q first (count + 1) (filled + 1) old (set new filled r)
-  step_more h room =
-      let many = f.many in
-      let z = f.so_many in
-      step (filled + 1) (set new filled r) (omega arith) (omega arith)
-      (ap (set new filled) (shown_row c r s) ∙ fill_more first f.list c filled old new f.rows (omega arith) (omega arith) room)
-
--- ---- the end: no room is left, or no row follows
-module _ (t : List ℕ) (from p first count filled : ℕ) (old new : List (Row Minutes)) (f : FillSoFar t from p first count filled old new) (r : Readable t from) where
-  pub filled_full : length old ≤ filled → Filled (conditions_from t from) first old new filled
-  filled_full full =
-      let many = f.many in
-      let z = f.so_many in
-      let front = front_read t from p f.list r f.leads in
-      fill_full first (conditions_from t from) f.list front.0 filled old new front.1 (omega arith) f.fits full f.rows
-
-  pub filled_rest : NextRow t p None → Filled (conditions_from t from) first old new filled
-  filled_rest (inl (q, h)) =
-      let many = f.many in
-      let z = f.so_many in
-      fill_all first (conditions_from t from) f.list filled old new (all_front t from p q f.list r f.leads (h 0 0 f.list)) (omega arith) f.fits f.rows
-  filled_rest (inr (e, h)) = absurd (no_fault t from p e f.list r f.leads (h 0 0 f.list))
+-- all of them
+pub counted : (s : Following) (n : ℕ) (cs : List (Condition Minutes)) → GivesRows s cs → ((rows : List (Row Minutes)) × Drains GivesRow s rows × (n ≡ length rows)) → n ≡ length cs
+counted s n cs h ran = count_from_yields_List s n ran h ∙ length-map cs (picked_row s.pick)

@@ -1,11 +1,11 @@
 -- How the machine moves through lists of windows and of rows, and what the row that is kept of them shows. Assumes nothing.
-use Rattle.std.proofs.Common.{◌≡◌, ℕ, zero, suc, ◌+◌, ◌-◌, ◌<◌, ◌≤◌, false, cond, eqb, leb, ◌⊎◌, List, [], ◌∷◌, ◌++◌, length, get_or, drop, set, Some, None, Option, sym, refl, ap, ◌∙◌, subst, inl, inr, ⊎_elim, arith, length-append, length-drop}
+use Rattle.std.proofs.Common.{◌≡◌, ℕ, zero, suc, ◌+◌, ◌-◌, ◌<◌, false, cond, eqb, leb, ◌⊎◌, List, [], ◌∷◌, ◌++◌, length, get_or, drop, set, Some, None, Option, Ok, Err, Result, sym, refl, ap, ◌∙◌, subst, inl, inr, ⊎_elim, arith, length-append, length-drop}
 use Rattle.std.proofs.lemmas.List.{get_or_at, get_or-set_same, get_or-set_other, drop_all}
 use Rattle.std.proofs.lemmas.Bool.{cond-true, cond-false, cases_lt, cases_eq, le-leb, lt-leb}
 use Rattle.spans.specs.declared.minutes.Minutes.{Minutes}
 use Rattle.networks.specs.declared.window.Window.{Window}
 use Rattle.networks.specs.declared.rows.Row.{Row}
-use Rattle.networks.specs.Network.{Condition, no_condition, open_window}
+use Rattle.networks.specs.Network.{Condition, open_window}
 use Rattle.networks.specs.Rows.{room, row_of}
 use Rattle.list_text.specs.declared.token.Mark.TheVariants.{Open, Close, ListOpen, ListClose, Comma, Semicolon}
 use Rattle.list_text.specs.declared.token.Mark.{Mark}
@@ -14,74 +14,77 @@ use Rattle.list_text.specs.declared.token.Token.TheVariants.{Bracket, Number, Wo
 use Rattle.list_text.specs.declared.token.Lexeme.{Lexeme}
 use Rattle.list_text.specs.Grammar.{blank, byte, Listing}
 use Rattle.list_text.specs.Lexing.{Lexed, Cut, mark_of}
-use Rattle.list_text.specs.Machine.{State, finished, expects, windows_start, windows_more, rows_more, in_window, one_more_row, step, run, reads}
-use Rattle.list_text.specs.Reading.{Leads, Faults, Behind, Shows, OneMore, NextRow}
+use Rattle.list_text.specs.Machine.{State, finished, expects, windows_start, windows_more, rows_more, in_window, one_more_row, start, step, run, reads}
+use Rattle.list_text.specs.Reading.{ahead, Leads, Faults, Shows, OneMore, Passes, ReadsRow, NextRow}
+use Rattle.std.specs.Result.{result_ok}
+use Rattle.list_text.specs.declared.reader.Misread.{Misread}
+use Rattle.list_text.specs.declared.reader.Reader.{Reader}
 use Rattle.list_text.proofs.Written.{windows_start_waits, windows_more_waits, rows_wait, finished_waits}
-use Rattle.list_text.proofs.Moves.{over_gap, halts, Wants, refuses, takes, first_no_blank, first_other, begins}
+use Rattle.list_text.proofs.Moves.{then, stop, mark_onward, over_gap, halts, Wants, refuses, takes, first_no_blank, first_other, begins}
 
 -- ---- at the next token
 -- a state that takes one mark or another, and nothing else
-two_marks : {t : List ℕ} {p : ℕ} {x : Lexeme} → Lexed t p x → (s : State) → Wants s → (m n : Mark)
+two_marks : {r : Reader} {x : Lexeme} → Lexed r x → (s : State) → Wants s → (m n : Mark)
     → ((c : ℕ) → blank c ≡ false → eqb c (byte m) ≡ false → eqb c (byte n) ≡ false → step s c ≡ None)
-    → (mark_of x.token ≡ Some m → ⊥) → (mark_of x.token ≡ Some n → ⊥) → Faults t p s x.place
-two_marks {t} {p} {x} h s w m n untaken a b =
+    → (mark_of x.token ≡ Some m → ⊥) → (mark_of x.token ≡ Some n → ⊥) → Faults r s x.place
+two_marks {r} {x} h s w m n untaken a b =
     refuses h s w (λ c f e. untaken c e (first_other x.token m c f a) (first_other x.token n c f b))
 
-module _ {t : List ℕ} {p : ℕ} {x : Lexeme} (h : Lexed t p x) where
-  pub windows_close : (k : List (Window Minutes) → State) → mark_of x.token ≡ Some ListClose → Leads t p (windows_start k) x.after (k [])
+module _ {r : Reader} {x : Lexeme} (h : Lexed r x) where
+  pub windows_close : (k : List (Window Minutes) → State) → mark_of x.token ≡ Some ListClose → Leads r (windows_start k) x.after (k [])
   windows_close k is = takes h (windows_start k) (k []) ListClose windows_start_waits refl is
 
-  pub windows_open : (k : List (Window Minutes) → State) → mark_of x.token ≡ Some Open → Leads t p (windows_start k) x.after (in_window [] k)
+  pub windows_open : (k : List (Window Minutes) → State) → mark_of x.token ≡ Some Open → Leads r (windows_start k) x.after (in_window [] k)
   windows_open k is = takes h (windows_start k) (in_window [] k) Open windows_start_waits refl is
 
   pub windows_fault : (k : List (Window Minutes) → State) → (mark_of x.token ≡ Some ListClose → ⊥) → (mark_of x.token ≡ Some Open → ⊥)
-      → Faults t p (windows_start k) x.place
+      → Faults r (windows_start k) x.place
   windows_fault k = two_marks h (windows_start k) (record { waits = windows_start_waits; not_yet = λ p. refl }) ListClose Open
       (λ c b e f. cond-false (blank c) _ _ b ∙ cond-false (eqb c 93) _ _ e ∙ cond-false (eqb c 40) _ _ f)
 
-  pub more_close : (ws : List (Window Minutes)) (k : List (Window Minutes) → State) → mark_of x.token ≡ Some ListClose → Leads t p (windows_more ws k) x.after (k ws)
+  pub more_close : (ws : List (Window Minutes)) (k : List (Window Minutes) → State) → mark_of x.token ≡ Some ListClose → Leads r (windows_more ws k) x.after (k ws)
   more_close ws k is = takes h (windows_more ws k) (k ws) ListClose windows_more_waits refl is
 
   pub more_semicolon : (ws : List (Window Minutes)) (k : List (Window Minutes) → State) → mark_of x.token ≡ Some Semicolon
-      → Leads t p (windows_more ws k) x.after (expects Open (in_window ws k))
+      → Leads r (windows_more ws k) x.after (expects Open (in_window ws k))
   more_semicolon ws k is = takes h (windows_more ws k) (expects Open (in_window ws k)) Semicolon windows_more_waits refl is
 
   pub more_fault : (ws : List (Window Minutes)) (k : List (Window Minutes) → State) → (mark_of x.token ≡ Some ListClose → ⊥) → (mark_of x.token ≡ Some Semicolon → ⊥)
-      → Faults t p (windows_more ws k) x.place
+      → Faults r (windows_more ws k) x.place
   more_fault ws k = two_marks h (windows_more ws k) (record { waits = windows_more_waits; not_yet = λ p. refl }) ListClose Semicolon
       (λ c b e f. cond-false (blank c) _ _ b ∙ cond-false (eqb c 93) _ _ e ∙ cond-false (eqb c 59) _ _ f)
 
   pub rows_close : (n m : ℕ) (cs : List (Condition Minutes)) → mark_of x.token ≡ Some ListClose
-      → Leads t p (rows_more n m cs) x.after (finished (record { first = n; second = m; conditions = cs }))
+      → Leads r (rows_more n m cs) x.after (finished (record { first = n; second = m; conditions = cs }))
   rows_close n m cs is = takes h (rows_more n m cs) _ ListClose rows_wait refl is
 
   pub rows_semicolon : (n m : ℕ) (cs : List (Condition Minutes)) → mark_of x.token ≡ Some Semicolon
-      → Leads t p (rows_more n m cs) x.after (expects Open (one_more_row n m cs))
+      → Leads r (rows_more n m cs) x.after (expects Open (one_more_row n m cs))
   rows_semicolon n m cs is = takes h (rows_more n m cs) _ Semicolon rows_wait refl is
 
   pub rows_fault : (n m : ℕ) (cs : List (Condition Minutes)) → (mark_of x.token ≡ Some ListClose → ⊥) → (mark_of x.token ≡ Some Semicolon → ⊥)
-      → Faults t p (rows_more n m cs) x.place
+      → Faults r (rows_more n m cs) x.place
   rows_fault n m cs = two_marks h (rows_more n m cs) (record { waits = rows_wait; not_yet = λ p. refl }) ListClose Semicolon
       (λ c b e f. cond-false (blank c) _ _ b ∙ cond-false (eqb c 93) _ _ e ∙ cond-false (eqb c 59) _ _ f)
 
   -- at the end of the text, and not at its end
-  pub at_finish : (l : Listing) → x.token ≡ Finish → run p (finished l) (drop p t) ≡ reads l
+  pub at_finish : (l : Listing) → x.token ≡ Finish → run r.at (finished l) (ahead r) ≡ reads l
   at_finish l is =
-      let (e, _) = subst (λ y. Cut t x.place y x.after) is h.token in
-      over_gap (finished l) finished_waits t p x.place h.gap ∙ ap (run x.place (finished l)) (drop_all x.place t (omega arith))
+      let (e, _) = subst (λ y. Cut r.text.now x.place y x.after.at) is h.token in
+      over_gap (finished l) finished_waits r.text.now r.at x.place h.gap ∙ ap (run x.place (finished l)) (drop_all x.place r.text.now (omega arith))
 
-  pub not_finish : (l : Listing) → (x.token ≡ Finish → ⊥) → Faults t p (finished l) x.place
+  pub not_finish : (l : Listing) → (x.token ≡ Finish → ⊥) → Faults r (finished l) x.place
   not_finish l other = record {
-    faults = over_gap (finished l) finished_waits t p x.place h.gap
+    faults = over_gap (finished l) finished_waits r.text.now r.at x.place h.gap
         ∙ ⊎_elim (λ e. absurd (other (finish x.token h.token e)))
         (λ (c, u, e, f). ap (run x.place (finished l)) e ∙ halts (finished l) c x.place u (cond-false (blank c) _ _ (first_no_blank x.token c f)))
-        (begins t x.place x.after x.token h.token);
+        (begins r.text.now x.place x.after.at x.token h.token);
   }
     where
-      short : x.place < length t → drop x.place t ≡ [] → ⊥
-      short lt e = let z : length (drop x.place t) ≡ 0 = ap length e in let l = length-drop x.place t in omega arith
+      short : x.place < length r.text.now → drop x.place r.text.now ≡ [] → ⊥
+      short lt e = let z : length (drop x.place r.text.now) ≡ 0 = ap length e in let l = length-drop x.place r.text.now in omega arith
 
-      finish : (y : Token) → Cut t x.place y x.after → drop x.place t ≡ [] → y ≡ Finish
+      finish : (y : Token) → Cut r.text.now x.place y x.after.at → drop x.place r.text.now ≡ [] → y ≡ Finish
       finish (Bracket m w) cut e = absurd (short cut.0 e)
       finish (Number w) cut e = absurd (short cut.0 e)
       finish (Word w) cut e = absurd (short cut.0 e)
@@ -141,29 +144,15 @@ shows_more i j pick ws w r r' s o = record {
         ]
 
 -- ---- how far windows and rows are read
-pub record WindowsSoFar (t : List ℕ) (from p i j pick : ℕ) (r : Row Minutes) : Type 0 where
-  pub behind : Behind t from p
-  pub few : r.count < p
+pub record WindowsSoFar (from p : Reader) (i j pick : ℕ) (r : Row Minutes) : Type 0 where
+  pub few : r.count < p.at
   pub windows : List (Window Minutes)
   pub shows : Shows (record { from = i; to = j; windows = windows }) pick r
-  pub leads : (k : List (Window Minutes) → State) → Leads t from (windows_start k) p (in_window windows k)
+  pub leads : (k : List (Window Minutes) → State) → Leads from (windows_start k) p (in_window windows k)
 
-pub record RowsSoFar (t : List ℕ) (from p j pick count : ℕ) (seen : Row Minutes) : Type 0 where
-  pub behind : Behind t from p
-  pub few : count ≤ p
+pub record RowsSoFar (from p : Reader) : Type 0 where
   pub list : List (Condition Minutes)
-  pub many : count ≡ length list
-  pub shows : Shows (get_or list j no_condition) pick seen
-  pub leads : (n m : ℕ) → Leads t from (rows_more n m []) p (rows_more n m list)
-
--- one row more: the one that is looked for, or another
-pub row_found : (cs : List (Condition Minutes)) (c : Condition Minutes) (j pick count : ℕ) (r : Row Minutes) → count ≡ length cs → count ≡ j
-    → Shows c pick r → Shows (get_or (cs ++ (c ∷ [])) j no_condition) pick r
-row_found cs c j pick count r many e s = subst (λ y. Shows y pick r) (sym (get_or_at cs c [] no_condition j (sym many ∙ e))) s
-
-pub row_other : (cs : List (Condition Minutes)) (c : Condition Minutes) (j pick count : ℕ) (r : Row Minutes) → count ≡ length cs → (count ≡ j → ⊥)
-    → Shows (get_or cs j no_condition) pick r → Shows (get_or (cs ++ (c ∷ [])) j no_condition) pick r
-row_other cs c j pick count r many ne s = subst (λ y. Shows y pick r) (sym (append_other cs c no_condition j (λ e. ne (many ∙ sym e)))) s
+  pub leads : (n m : ℕ) → Leads from (rows_more n m []) p (rows_more n m list)
 
 -- ---- the next row, or none
 closes : (o : Option Mark) → (o ≡ Some ListClose) ⊎ (o ≡ Some ListClose → ⊥)
@@ -175,9 +164,33 @@ closes (Some ListClose) = inl refl
 closes (Some Comma) = inr (λ e. grind arith)
 closes (Some Semicolon) = inr (λ e. grind arith)
 
-pub no_row : {t : List ℕ} {p : ℕ} {x : Lexeme} → Lexed t p x → (mark_of x.token ≡ Some Semicolon → ⊥) → NextRow t p None
-no_row {t} {p} {x} h other =
+pub no_row : {r : Reader} {x : Lexeme} → Lexed r x → (mark_of x.token ≡ Some Semicolon → ⊥) → (pick : ℕ) → NextRow r pick None
+no_row {r} {x} h other pick =
     elim (closes (mark_of x.token)) [
       | inl is ↦ inl (x.after, λ n m cs. rows_close h n m cs is)
       | inr not-closed ↦ inr (x.place, λ n m cs. rows_fault h n m cs not-closed other)
     ]
+
+pub bracket_read : {r p : Reader} (v : Result Reader Misread) → ((k : State) → Passes r (expects Open k) k v) → Some p ≡ result_ok v → (k : State) → Leads r (expects Open k) p k
+bracket_read {r} {p} (Ok q) f e k = let i : q ≡ p = cc in subst (λ u. Leads r (expects Open k) u k) i (f k)
+bracket_read {r} {p} (Err e) f some k = absurd (grind arith)
+
+module _ {r : Reader} {x : Lexeme} (h : Lexed r x) (is : mark_of x.token ≡ Some Semicolon) where
+  -- a semicolon, and no bracket
+  pub no_bracket : (v : Result Reader Misread) → ((k : State) → Passes x.after (expects Open k) k v) → None ≡ result_ok v → (pick : ℕ) → NextRow r pick None
+  no_bracket (Ok q) f e pick = absurd (grind arith)
+  no_bracket (Err e) f none pick = inr (e.place, λ n m cs. stop (rows_semicolon h n m cs is) (f _))
+
+  -- a semicolon, a bracket, and a row or none
+  pub one_row : {p : Reader} (pick : ℕ) → ((k : State) → Leads x.after (expects Open k) p k) → (v : Result (Row Minutes × Reader) Misread) → ReadsRow p pick v → NextRow r pick (result_ok v)
+  one_row {p} pick bracket (Ok v) (c, s, read) =
+      let on = mark_onward h _ is in
+      let a = (bracket start).onward in
+      let b = (read (λ _. start)).onward in (
+        c,
+        s,
+        omega arith,
+        λ n m cs. then (rows_semicolon h n m cs is) (then (bracket _) (read (λ d. rows_more n m (cs ++ (d ∷ []))))),
+      )
+  one_row {p} pick bracket (Err e) faults =
+      inr (e.place, λ n m cs. stop (rows_semicolon h n m cs is) (stop (bracket _) (faults (λ d. rows_more n m (cs ++ (d ∷ []))))))

@@ -11,7 +11,8 @@ use Rattle.list_text.specs.declared.token.Lexeme.{Lexeme}
 use Rattle.list_text.specs.Grammar.{Over, none, more, blank, digit, byte}
 use Rattle.list_text.specs.Lexing.{letter, Passed, Cut, Lexed, Odd, mark_of}
 use Rattle.list_text.specs.Machine.{State, expects, step, run, stuck}
-use Rattle.list_text.specs.Reading.{Leads, Faults, Behind}
+use Rattle.list_text.specs.Reading.{ahead, Leads, Faults}
+use Rattle.list_text.specs.declared.reader.Reader.{Reader}
 use Rattle.list_text.proofs.Completions.{takes_mark}
 use Rattle.list_text.proofs.Written.{Waits, expects_waits}
 
@@ -100,57 +101,68 @@ pub record Wants (s : State) : Type 0 where
 pub expects_wants : {m : Mark} {k : State} → Wants (expects m k)
 expects_wants = record { waits = expects_waits; not_yet = λ p. refl }
 
-module _ {t : List ℕ} {p : ℕ} {x : Lexeme} (h : Lexed t p x) where
+module _ {r : Reader} {x : Lexeme} (h : Lexed r x) where
   -- it takes no byte with which the token begins
-  pub refuses : (s : State) → Wants s → ((c : ℕ) → First x.token c → blank c ≡ false → step s c ≡ None) → Faults t p s x.place
+  pub refuses : (s : State) → Wants s → ((c : ℕ) → First x.token c → blank c ≡ false → step s c ≡ None) → Faults r s x.place
   refuses s w untaken = record {
-    faults = over_gap s w.waits t p x.place h.gap
+    faults = over_gap s w.waits r.text.now r.at x.place h.gap
         ∙ ⊎_elim (λ e. ap (run x.place s) e ∙ w.not_yet x.place)
         (λ (c, u, e, f). ap (run x.place s) e ∙ halts s c x.place u (untaken c f (first_no_blank x.token c f)))
-        (begins t x.place x.after x.token h.token);
+        (begins r.text.now x.place x.after.at x.token h.token);
   }
 
+  -- the state in which the machine is behind the token
+  pub goes : (s k : State) → run r.at s (ahead r) ≡ run x.after.at k (drop x.after.at r.text.now) → Leads r s x.after k
+  goes s k e = record { text = h.text; onward = h.onward; leads = e ∙ ap (λ t. run x.after.at k (drop x.after.at t)) (sym h.text) }
+
   -- it takes the mark that is there
-  pub takes : (s k : State) (m : Mark) → Waits s → step s (byte m) ≡ Some k → mark_of x.token ≡ Some m → Leads t p s x.after k
-  takes s k m w e is = record { leads = over_gap s w t p x.place h.gap ∙ over x.token h.token is }
+  pub takes : (s k : State) (m : Mark) → Waits s → step s (byte m) ≡ Some k → mark_of x.token ≡ Some m → Leads r s x.after k
+  takes s k m w e is = goes s k (over_gap s w r.text.now r.at x.place h.gap ∙ over x.token h.token is)
     where
-      over : (y : Token) → Cut t x.place y x.after → mark_of y ≡ Some m → run x.place s (drop x.place t) ≡ run x.after k (drop x.after t)
+      over : (y : Token) → Cut r.text.now x.place y x.after.at → mark_of y ≡ Some m → run x.place s (drop x.place r.text.now) ≡ run x.after.at k (drop x.after.at r.text.now)
       over (Bracket n b) (lt, eq, at, bytes) is =
           let same : n ≡ m = cc in
-          moves_at s k t x.place lt (ap (step s) (at ∙ ap byte same) ∙ e) ∙ ap (λ i. run i k (drop i t)) (sym eq)
+          moves_at s k r.text.now x.place lt (ap (step s) (at ∙ ap byte same) ∙ e) ∙ ap (λ i. run i k (drop i r.text.now)) (sym eq)
       over (Number b) cut is = absurd (grind arith)
       over (Word b) cut is = absurd (grind arith)
       over (Stray b) cut is = absurd (grind arith)
       over Finish cut is = absurd (grind arith)
 
-  -- a token that is a mark is behind its place
-  pub behind : Behind t p x.after
-  behind = record { onward = h.onward; within = h.within }
-
-  pub mark_onward : (m : Mark) → mark_of x.token ≡ Some m → p < x.after
+  -- the reader behind a mark is behind its place
+  pub mark_onward : (m : Mark) → mark_of x.token ≡ Some m → r.at < x.after.at
   mark_onward m is = over x.token h.token is
     where
-      over : (y : Token) → Cut t x.place y x.after → mark_of y ≡ Some m → p < x.after
+      over : (y : Token) → Cut r.text.now x.place y x.after.at → mark_of y ≡ Some m → r.at < x.after.at
       over (Bracket n b) (lt, eq, at, bytes) is = omega (arith, h.gap.from)
       over (Number b) cut is = absurd (grind arith)
       over (Word b) cut is = absurd (grind arith)
       over (Stray b) cut is = absurd (grind arith)
       over Finish cut is = absurd (grind arith)
 
-  pub expected : (m : Mark) (k : State) → mark_of x.token ≡ Some m → Leads t p (expects m k) x.after k
+  pub expected : (m : Mark) (k : State) → mark_of x.token ≡ Some m → Leads r (expects m k) x.after k
   expected m k is = takes (expects m k) k m expects_waits (takes_mark m k) is
 
-  pub unexpected : (m : Mark) (k : State) → (mark_of x.token ≡ Some m → ⊥) → Faults t p (expects m k) x.place
+  pub unexpected : (m : Mark) (k : State) → (mark_of x.token ≡ Some m → ⊥) → Faults r (expects m k) x.place
   unexpected m k other =
       refuses (expects m k) expects_wants
       (λ c f b. cond-false (blank c) _ _ b ∙ cond-false (eqb c (byte m)) _ _ (first_other x.token m c f other))
 
 -- ---- one reading after another
-pub then : {t : List ℕ} {p q r : ℕ} {s k j : State} → Leads t p s q k → Leads t q k r j → Leads t p s r j
-then a b = record { leads = a.leads ∙ b.leads }
+pub then : {r q u : Reader} {s k j : State} → Leads r s q k → Leads q k u j → Leads r s u j
+then a b = record { text = b.text ∙ a.text; onward = omega (arith, a.onward, b.onward); leads = a.leads ∙ b.leads }
 
-pub stop : {t : List ℕ} {p q e : ℕ} {s k : State} → Leads t p s q k → Faults t q k e → Faults t p s e
+pub stop : {r q : Reader} {e : ℕ} {s k : State} → Leads r s q k → Faults q k e → Faults r s e
 stop a b = record { faults = a.leads ∙ b.faults }
 
-pub behind_behind : {t : List ℕ} {p q r : ℕ} → Behind t p q → Behind t q r → Behind t p r
-behind_behind a b = record { onward = omega (arith, a.onward, b.onward); within = b.within }
+-- none: the reader stays where it is
+pub stays : (r : Reader) (s : State) → Leads r s r s
+stays r s = record { text = refl; onward = omega arith; leads = refl }
+
+-- behind a step onward fewer bytes are ahead
+pub nearer : {r q : Reader} {s k : State} → Leads r s q k → r.at < q.at → length (ahead q) < length (ahead r)
+nearer {r} {q} l on =
+    let a = length-drop r.at r.text.now in
+    let b = length-drop q.at q.text.now in
+    let e : length q.text.now ≡ length r.text.now = ap length l.text in
+    let w = q.inside.within in
+    omega arith

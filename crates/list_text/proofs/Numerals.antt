@@ -11,9 +11,10 @@ use Rattle.list_text.specs.declared.token.Lexeme.{Lexeme}
 use Rattle.list_text.specs.Grammar.{blank, digit, AllOf, Numeral, written}
 use Rattle.list_text.specs.Lexing.{Cut, Lexed, Unlike, Piece}
 use Rattle.list_text.specs.Machine.{State, expects, number, after_dash, in_digits, one_digit, mark_after, step, run, stuck}
-use Rattle.list_text.specs.Reading.{Leads, Faults}
+use Rattle.list_text.specs.Reading.{ahead, Leads, Faults}
+use Rattle.list_text.specs.declared.reader.Reader.{Reader}
 use Rattle.list_text.proofs.Written.{number_waits}
-use Rattle.list_text.proofs.Moves.{moves, halts, over_gap, Wants, refuses, First, mark_class}
+use Rattle.list_text.proofs.Moves.{moves, halts, over_gap, goes, Wants, refuses, First, mark_class}
 
 -- ---- the value of digits, one by one
 written_append : (xs ys : List ℕ) (n : ℕ) → written n (xs ++ ys) ≡ written (written n xs) ys
@@ -114,9 +115,9 @@ no_number sign k c b d h = cond-false (blank c) _ _ b ∙ cond-false (digit c) _
 number_wants : {sign : Bool} {k : Bool → ℕ → State} → Wants (number sign k)
 number_wants = record { waits = number_waits; not_yet = λ p. refl }
 
-pub not_number : {t : List ℕ} {p : ℕ} {x : Lexeme} → Lexed t p x → (sign : Bool) (k : Bool → ℕ → State) → ((w : Bor (List ℕ)) → x.token ≡ Number w → ⊥)
-    → Faults t p (number sign k) x.place
-not_number {t} {p} {x} h sign k other = refuses h (number sign k) number_wants (untaken x.token other)
+pub not_number : {r : Reader} {x : Lexeme} → Lexed r x → (sign : Bool) (k : Bool → ℕ → State) → ((w : Bor (List ℕ)) → x.token ≡ Number w → ⊥)
+    → Faults r (number sign k) x.place
+not_number {r} {x} h sign k other = refuses h (number sign k) number_wants (untaken x.token other)
   where
     untaken : (y : Token) → ((w : Bor (List ℕ)) → y ≡ Number w → ⊥) → (c : ℕ) → First y c → blank c ≡ false → step (number sign k) c ≡ None
     untaken (Bracket m w) other c f b = no_number sign k c b (ap digit f ∙ (mark_class m).1) (inr (ap (λ x. eqb x 45) f ∙ (mark_class m).3))
@@ -137,9 +138,9 @@ rest_is c ds w e = ap (λ w. take (length w - 1) (drop 1 w)) e ∙ take_all (suc
 abbrev pub NoNumber : List ℕ → ℕ → ℕ → Type 0
 NoNumber ds p e = ((length ds ≡ 0) × (e ≡ p)) ⊎ ((12 < length ds) × (e ≡ p + 12))
 
-module _ {t : List ℕ} {p : ℕ} {x : Lexeme} (h : Lexed t p x) (w : Bor (List ℕ)) (is : x.token ≡ Number w) where
-  pub number_piece : NumberPiece t w.now x.place x.after
-  number_piece = (subst (λ y. Cut t x.place y x.after) is h.token).1
+module _ {r : Reader} {x : Lexeme} (h : Lexed r x) (w : Bor (List ℕ)) (is : x.token ≡ Number w) where
+  pub number_piece : NumberPiece r.text.now w.now x.place x.after.at
+  number_piece = (subst (λ y. Cut r.text.now x.place y x.after.at) is h.token).1
 
   first_is : get_or w.now 0 0 ≡ number_piece.first
   first_is = ap (λ w. get_or w 0 0) number_piece.is
@@ -151,62 +152,58 @@ module _ {t : List ℕ} {p : ℕ} {x : Lexeme} (h : Lexed t p x) (w : Bor (List 
       subst (AllOf digit) (sym g.is)
       (⊎_elim (λ e. absurd (both_ways _ n e)) (λ e. e) (or_cases (eqb g.first 45) (digit g.first) g.begins), g.pass)
 
-  to_number : (sign : Bool) (k : Bool → ℕ → State) → run p (number sign k) (drop p t) ≡ run x.place (number sign k) (w.now ++ drop x.after t)
-  to_number sign k = over_gap _ number_waits t p x.place h.gap ∙ ap (run x.place (number sign k)) number_piece.whole
+  to_number : (sign : Bool) (k : Bool → ℕ → State) → run r.at (number sign k) (ahead r) ≡ run x.place (number sign k) (w.now ++ drop x.after.at r.text.now)
+  to_number sign k = over_gap _ number_waits r.text.now r.at x.place h.gap ∙ ap (run x.place (number sign k)) number_piece.whole
 
-  pub plain : (sign : Bool) (k : Bool → ℕ → State) (n : ℕ) → Numeral n w.now → Leads t p (number sign k) x.after (expects (mark_after sign) (k false n))
+  pub plain : (sign : Bool) (k : Bool → ℕ → State) (n : ℕ) → Numeral n w.now → Leads r (number sign k) x.after (expects (mark_after sign) (k false n))
   plain sign k n d =
       let g = number_piece in
-      record {
-        leads = to_number sign k
-            ∙ whole_number (number sign k) sign false k (number_enters sign k) (drop x.after t) w.now n x.place d g.stops
-            ∙ ap (λ i. run i (expects (mark_after sign) (k false n)) (drop x.after t)) (sym g.long);
-      }
+      goes h (number sign k) _ (to_number sign k
+      ∙ whole_number (number sign k) sign false k (number_enters sign k) (drop x.after.at r.text.now) w.now n x.place d g.stops
+      ∙ ap (λ i. run i (expects (mark_after sign) (k false n)) (drop x.after.at r.text.now)) (sym g.long))
 
-  pub plain_fault : (sign : Bool) (k : Bool → ℕ → State) (e : ℕ) → AllOf digit w.now → NoNumber w.now x.place e → Faults t p (number sign k) e
+  pub plain_fault : (sign : Bool) (k : Bool → ℕ → State) (e : ℕ) → AllOf digit w.now → NoNumber w.now x.place e → Faults r (number sign k) e
   plain_fault sign k e all (inl (z, _)) =
       let l : length w.now ≡ suc (length number_piece.others) = ap length number_piece.is in absurd (omega arith)
   plain_fault sign k e all (inr (long, at)) = record {
-    faults = to_number sign k ∙ long_number (number sign k) sign false k (number_enters sign k) (drop x.after t) w.now x.place all long ∙ ap stuck (sym at);
+    faults = to_number sign k ∙ long_number (number sign k) sign false k (number_enters sign k) (drop x.after.at r.text.now) w.now x.place all long ∙ ap stuck (sym at);
   }
 
   -- over the dash
-  over_dash : (k : Bool → ℕ → State) → get_or w.now 0 0 ≡ 45 → run p (number true k) (drop p t) ≡ run (x.place + 1) (after_dash k) (number_piece.others ++ drop x.after t)
+  over_dash : (k : Bool → ℕ → State) → get_or w.now 0 0 ≡ 45 → run r.at (number true k) (ahead r) ≡ run (x.place + 1) (after_dash k) (number_piece.others ++ drop x.after.at r.text.now)
   over_dash k d =
       let g = number_piece in
       let e : w.now ≡ 45 ∷ g.others = g.is ∙ ap (λ c. c ∷ g.others) (sym first_is ∙ d) in
-      to_number true k ∙ ap (λ y. run x.place (number true k) (y ++ drop x.after t)) e
-      ∙ moves (number true k) (after_dash k) 45 x.place (g.others ++ drop x.after t) refl
+      to_number true k ∙ ap (λ y. run x.place (number true k) (y ++ drop x.after.at r.text.now)) e
+      ∙ moves (number true k) (after_dash k) 45 x.place (g.others ++ drop x.after.at r.text.now) refl
 
-  pub dash_fault : (sign : Bool) (k : Bool → ℕ → State) → sign ≡ false → get_or w.now 0 0 ≡ 45 → Faults t p (number sign k) x.place
+  pub dash_fault : (sign : Bool) (k : Bool → ℕ → State) → sign ≡ false → get_or w.now 0 0 ≡ 45 → Faults r (number sign k) x.place
   dash_fault sign k unsigned d =
       let g = number_piece in
       let f : g.first ≡ 45 = sym first_is ∙ d in
       record {
-        faults = to_number sign k ∙ ap (λ y. run x.place (number sign k) (y ++ drop x.after t)) g.is
-            ∙ halts (number sign k) g.first x.place (g.others ++ drop x.after t) (no_number sign k g.first (ap blank f) (ap digit f) (inl unsigned));
+        faults = to_number sign k ∙ ap (λ y. run x.place (number sign k) (y ++ drop x.after.at r.text.now)) g.is
+            ∙ halts (number sign k) g.first x.place (g.others ++ drop x.after.at r.text.now) (no_number sign k g.first (ap blank f) (ap digit f) (inl unsigned));
       }
 
   pub negative : (k : Bool → ℕ → State) (n : ℕ) (ds : List ℕ) → get_or w.now 0 0 ≡ 45 → ds ≡ number_piece.others → Numeral n ds
-      → Leads t p (number true k) x.after (expects Close (k true n))
+      → Leads r (number true k) x.after (expects Close (k true n))
   negative k n ds d e numeral =
       let g = number_piece in
       let l : length w.now ≡ suc (length g.others) = ap length g.is in
-      let long : x.after ≡ x.place + length w.now = g.long in
-      let i : (x.place + 1) + length g.others ≡ x.after = omega arith in
-      record {
-        leads = over_dash k d
-            ∙ whole_number (after_dash k) true true k (dash_enters k) (drop x.after t) g.others n (x.place + 1) (subst (Numeral n) e numeral) g.stops
-            ∙ ap (λ i. run i (expects Close (k true n)) (drop x.after t)) i;
-      }
+      let long : x.after.at ≡ x.place + length w.now = g.long in
+      let i : (x.place + 1) + length g.others ≡ x.after.at = omega arith in
+      goes h (number true k) _ (over_dash k d
+      ∙ whole_number (after_dash k) true true k (dash_enters k) (drop x.after.at r.text.now) g.others n (x.place + 1) (subst (Numeral n) e numeral) g.stops
+      ∙ ap (λ i. run i (expects Close (k true n)) (drop x.after.at r.text.now)) i)
 
   pub negative_fault : (k : Bool → ℕ → State) (e : ℕ) (ds : List ℕ) → get_or w.now 0 0 ≡ 45 → ds ≡ number_piece.others → NoNumber ds (x.place + 1) e
-      → Faults t p (number true k) e
+      → Faults r (number true k) e
   negative_fault k e ds d same (inl (z, at)) =
       let g = number_piece in
       record {
-        faults = over_dash k d ∙ ap (run (x.place + 1) (after_dash k)) (ap (λ y. y ++ drop x.after t) (empty g.others (ap length (sym same) ∙ z)))
-            ∙ no_digit (drop x.after t) g.stops ∙ ap stuck (sym at);
+        faults = over_dash k d ∙ ap (run (x.place + 1) (after_dash k)) (ap (λ y. y ++ drop x.after.at r.text.now) (empty g.others (ap length (sym same) ∙ z)))
+            ∙ no_digit (drop x.after.at r.text.now) g.stops ∙ ap stuck (sym at);
       }
     where
       empty : (l : List ℕ) → length l ≡ 0 → l ≡ []
@@ -220,6 +217,6 @@ module _ {t : List ℕ} {p : ℕ} {x : Lexeme} (h : Lexed t p x) (w : Bor (List 
       let g = number_piece in
       record {
         faults = over_dash k d
-            ∙ long_number (after_dash k) true true k (dash_enters k) (drop x.after t) g.others (x.place + 1) g.pass (subst (λ y. 12 < length y) same long)
+            ∙ long_number (after_dash k) true true k (dash_enters k) (drop x.after.at r.text.now) g.others (x.place + 1) g.pass (subst (λ y. 12 < length y) same long)
             ∙ ap stuck (sym at);
       }

@@ -1,16 +1,34 @@
 -- Bytes that pass a test, one after another, and what lies between two places. Assumes nothing.
-use Rattle.std.proofs.Common.{◌≡◌, ℕ, suc, ◌+◌, ◌-◌, ◌<◌, ◌≤◌, Bool, true, false, List, [], ◌∷◌, ◌++◌, length, get_or, take, drop, sym, refl, ap, ◌∙◌, subst, ⊎_elim, arith, length-append, length-drop}
-use Rattle.std.proofs.lemmas.List.{drop_more, drop_all, take_at}
+use Rattle.std.proofs.Common.{◌≡◌, ℕ, suc, ◌+◌, ◌-◌, ◌<◌, ◌≤◌, Bool, true, false, cond, List, [], ◌∷◌, ◌++◌, length, get_or, take, drop, sym, refl, ap, ◌∙◌, subst, ⊎_elim, arith, length-append, length-drop}
+use Rattle.std.proofs.lemmas.List.{drop_more, drop_all, take_at, take_all, drop-drop, get_or-drop}
 use Rattle.std.proofs.lemmas.Bool.{cases_lt}
 use Rattle.list_text.specs.Grammar.{Over, none, more, AllOf}
 use Rattle.list_text.specs.Lexing.{Passed, Unlike, Piece}
+use Rattle.std.specs.List.{prefix_len}
+use Rattle.std.proofs.lemmas.List.Sums.{prefix_len-le-length, prefix_len_stops}
 
-over_push : {P : ℕ → Bool} {u v : List ℕ} (c : ℕ) → P c ≡ true → Over P u (c ∷ v) → Over P u v
-over_push c e none = more c e none
-over_push c e (more b h o) = more b h (over_push c e o)
+-- ---- as many bytes as pass the test
+over_front : (P : ℕ → Bool) (u : List ℕ) → Over P u (drop (prefix_len P u) u)
+over_front P [] = none
+over_front P (c ∷ u) = go (P c) refl (over_front P u)
+  where
+    go : (b : Bool) → P c ≡ b → Over P u (drop (prefix_len P u) u) → Over P (c ∷ u) (drop (cond b (1 + prefix_len P u) 0) (c ∷ u))
+    go true e h = more c e (let i : suc (prefix_len P u) ≡ 1 + prefix_len P u = omega arith in subst (λ n. Over P u (drop n (c ∷ u))) i h)
+    go false e h = none
 
-pub over_more : (P : ℕ → Bool) (t u : List ℕ) (q : ℕ) → q < length t → P (get_or t q 0) ≡ true → Over P u (drop q t) → Over P u (drop (q + 1) t)
-over_more P t u q lt e o = over_push (get_or t q 0) e (subst (Over P u) (drop_more t q 0 lt) o)
+-- n bytes of `&t[p..]` pass, and no more
+pub passed : (P : ℕ → Bool) (t : List ℕ) (p n : ℕ) → p ≤ length t → n ≡ prefix_len P (take (length t - p) (drop p t)) → Passed P t p (p + n)
+passed P t p n le e =
+    let u = drop p t in
+    let l = length-drop p t in
+    let i : n ≡ prefix_len P u = e ∙ ap (prefix_len P) (take_all (length t - p) u (omega arith)) in
+    let few = prefix_len-le-length P u in
+    record {
+      from = omega arith;
+      within = omega arith;
+      all = subst (Over P u) (ap (λ m. drop m u) (sym i) ∙ drop-drop n p t) (over_front P u);
+      stops = λ lt. ap P (sym (get_or-drop p t n 0)) ∙ ap (λ m. P (get_or u m 0)) i ∙ prefix_len_stops P u 0 (omega arith);
+    }
 
 -- what lies between, as a list of its own
 between : (P : ℕ → Bool) (u v : List ℕ) → Over P u v → (ds : List ℕ) × (u ≡ ds ++ v) × AllOf P ds

@@ -1,5 +1,5 @@
 -- How the machine moves over a word: `E`, `Inf`, or one that is neither. Assumes nothing.
-use Rattle.std.proofs.Common.{◌≡◌, ℕ, ◌+◌, ◌<◌, Bool, true, false, cond, eqb, List, [], ◌∷◌, ◌++◌, length, get_or, drop, Some, None, Option, sym, refl, ap, ◌∙◌, subst, arith, Bor}
+use Rattle.std.proofs.Common.{◌≡◌, ℕ, ◌+◌, ◌<◌, Bool, true, false, not, cond, eqb, List, [], ◌∷◌, ◌++◌, length, get_or, drop, Some, None, Option, sym, refl, ap, ◌∙◌, subst, arith, Bor}
 use Rattle.std.proofs.lemmas.Bool.{cond-true, cond-false, ne_eqb, eqb-true, both_ways}
 use Rattle.std.proofs.lemmas.Bool.Decides.{nat_tests}
 use Rattle.spans.specs.declared.minutes.Minutes.{Minutes}
@@ -12,9 +12,16 @@ use Rattle.list_text.specs.declared.token.Lexeme.{Lexeme}
 use Rattle.list_text.specs.Grammar.{blank, byte, with_sign, AllOf}
 use Rattle.list_text.specs.Lexing.{letter, Cut, Lexed, Unlike, Piece, fault_in}
 use Rattle.list_text.specs.Machine.{State, expects, number, at_end, after_I, after_In, step, run, stuck}
-use Rattle.list_text.specs.Reading.{Leads, Faults}
+use Rattle.list_text.specs.Reading.{ahead, Leads, Faults}
+use Rattle.list_text.specs.declared.reader.Reader.{Reader}
 use Rattle.list_text.proofs.Written.{end_waits}
-use Rattle.list_text.proofs.Moves.{moves, halts, over_gap, Wants, refuses, First, mark_class}
+use Rattle.list_text.proofs.Moves.{moves, halts, over_gap, goes, Wants, refuses, First, mark_class}
+
+pub other_way : {a b : Bool} → a ≡ not b → not a ≡ b
+other_way {a = true} {b = true} e = grind arith
+other_way {a = true} {b = false} e = refl
+other_way {a = false} {b = true} e = refl
+other_way {a = false} {b = false} e = grind arith
 
 letter_no_blank : (c : ℕ) → letter c ≡ true → blank c ≡ false
 letter_no_blank c e = grind (arith, nat_tests)
@@ -92,44 +99,42 @@ module _ (m : Mark) (k : Option Minutes → State) (v : List ℕ) (u : Unlike le
       go false t false s = let e : p ≡ p + 0 = omega arith in ap stuck e
 
 -- ---- the word that is there
-module _ {t : List ℕ} {p : ℕ} {x : Lexeme} (h : Lexed t p x) (w : Bor (List ℕ)) (is : x.token ≡ Word w) where
-  pub word_piece : Piece (λ c. letter c ≡ true) letter t w.now x.place x.after
-  word_piece = (subst (λ y. Cut t x.place y x.after) is h.token).1
+module _ {r : Reader} {x : Lexeme} (h : Lexed r x) (w : Bor (List ℕ)) (is : x.token ≡ Word w) where
+  pub word_piece : Piece (λ c. letter c ≡ true) letter r.text.now w.now x.place x.after.at
+  word_piece = (subst (λ y. Cut r.text.now x.place y x.after.at) is h.token).1
 
-  to_word : (j : Option Minutes → State) → run p (at_end j) (drop p t) ≡ run x.place (at_end j) (w.now ++ drop x.after t)
-  to_word j = over_gap _ end_waits t p x.place h.gap ∙ ap (run x.place (at_end j)) word_piece.whole
+  to_word : (j : Option Minutes → State) → run r.at (at_end j) (ahead r) ≡ run x.place (at_end j) (w.now ++ drop x.after.at r.text.now)
+  to_word j = over_gap _ end_waits r.text.now r.at x.place h.gap ∙ ap (run x.place (at_end j)) word_piece.whole
 
-  pub is_Inf : (j : Option Minutes → State) → w.now ≡ 73 ∷ 110 ∷ 102 ∷ [] → Leads t p (at_end j) x.after (j None)
+  pub is_Inf : (j : Option Minutes → State) → w.now ≡ 73 ∷ 110 ∷ 102 ∷ [] → Leads r (at_end j) x.after (j None)
   is_Inf j e =
       let l : length w.now ≡ 3 = ap length e in
-      let long : x.after ≡ x.place + length w.now = word_piece.long in
-      let i : ((x.place + 1) + 1) + 1 ≡ x.after = omega arith in
-      record { leads = to_word j ∙ ap (λ y. run x.place (at_end j) (y ++ drop x.after t)) e ∙ ap (λ i. run i (j None) (drop x.after t)) i }
+      let long : x.after.at ≡ x.place + length w.now = word_piece.long in
+      let i : ((x.place + 1) + 1) + 1 ≡ x.after.at = omega arith in
+      goes h (at_end j) _ (to_word j ∙ ap (λ y. run x.place (at_end j) (y ++ drop x.after.at r.text.now)) e ∙ ap (λ i. run i (j None) (drop x.after.at r.text.now)) i)
 
-  pub is_E : (j : Option Minutes → State) → w.now ≡ 69 ∷ [] → Leads t p (at_end j) x.after (expects Open (number true (λ negative n. j (Some (minutes (with_sign negative n))))))
+  pub is_E : (j : Option Minutes → State) → w.now ≡ 69 ∷ [] → Leads r (at_end j) x.after (expects Open (number true (λ negative n. j (Some (minutes (with_sign negative n))))))
   is_E j e =
       let l : length w.now ≡ 1 = ap length e in
-      let long : x.after ≡ x.place + length w.now = word_piece.long in
-      let i : x.place + 1 ≡ x.after = omega arith in
-      record {
-        leads = to_word j ∙ ap (λ y. run x.place (at_end j) (y ++ drop x.after t)) e
-            ∙ ap (λ i. run i (expects Open (number true (λ negative n. j (Some (minutes (with_sign negative n)))))) (drop x.after t)) i;
-      }
+      let long : x.after.at ≡ x.place + length w.now = word_piece.long in
+      let i : x.place + 1 ≡ x.after.at = omega arith in
+      goes h (at_end j) _ (to_word j ∙ ap (λ y. run x.place (at_end j) (y ++ drop x.after.at r.text.now)) e
+      ∙ ap (λ i. run i (expects Open (number true (λ negative n. j (Some (minutes (with_sign negative n)))))) (drop x.after.at r.text.now)) i)
 
   pub is_other : (m : Mark) (k : Option Minutes → State) → (w.now ≡ 69 ∷ [] → ⊥) → (w.now ≡ 73 ∷ 110 ∷ 102 ∷ [] → ⊥)
-      → Faults t p (at_end (λ o. expects m (k o))) (x.place + fault_in w.now)
+      → Faults r (at_end (λ o. expects m (k o))) (x.place + fault_in w.now)
   is_other m k no-E no-Inf =
       let g = word_piece in
       record {
         faults = to_word (λ o. expects m (k o))
-            ∙ other_word m k (drop x.after t) g.stops w.now x.place (subst (AllOf letter) (sym g.is) (g.begins, g.pass)) (subst (λ y. 0 < length y) (sym g.is) (omega arith)) no-E no-Inf;
+            ∙ other_word m k (drop x.after.at r.text.now) g.stops w.now x.place (subst (AllOf letter) (sym g.is) (g.begins, g.pass)) (subst (λ y. 0 < length y) (sym g.is) (omega arith)) no-E no-Inf;
       }
 
 end_wants : {k : Option Minutes → State} → Wants (at_end k)
 end_wants = record { waits = end_waits; not_yet = λ p. refl }
 
-pub not_word : {t : List ℕ} {p : ℕ} {x : Lexeme} → Lexed t p x → (j : Option Minutes → State) → ((w : Bor (List ℕ)) → x.token ≡ Word w → ⊥) → Faults t p (at_end j) x.place
-not_word {t} {p} {x} h j other = refuses h (at_end j) end_wants (untaken x.token other)
+pub not_word : {r : Reader} {x : Lexeme} → Lexed r x → (j : Option Minutes → State) → ((w : Bor (List ℕ)) → x.token ≡ Word w → ⊥) → Faults r (at_end j) x.place
+not_word {r} {x} h j other = refuses h (at_end j) end_wants (untaken x.token other)
   where
     no_letter : (c : ℕ) → blank c ≡ false → letter c ≡ false → step (at_end j) c ≡ None
     no_letter c b l = cond-false (blank c) _ _ b ∙ cond-false (eqb c 69) _ _ (grind (arith, nat_tests)) ∙ cond-false (eqb c 73) _ _ (grind (arith, nat_tests))

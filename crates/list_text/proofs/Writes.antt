@@ -1,17 +1,18 @@
 -- What `write_dates` writes, as the grammar has it: decimal digits are the shortest numerals, headers and rows are made of them, and row follows row.
 -- Assumes nothing.
-use Rattle.std.proofs.Common.{◌≡◌, ℕ, zero, suc, ◌+◌, ◌^◌, ◌<◌, ◌≤◌, true, false, List, [], ◌∷◌, ◌++◌, length, get_or, drop, ℤ, pos, negsuc, nat_abs, Some, codes, decimal, sym, refl, ap, ◌∙◌, subst, append_assoc, arith, lit<, length-drop, rules}
+use Rattle.std.proofs.Common.{◌≡◌, ℕ, zero, suc, ◌+◌, ◌-◌, ◌^◌, ◌<◌, ◌≤◌, Bool, true, false, leb, List, [], ◌∷◌, ◌++◌, length, get_or, drop, ℤ, pos, negsuc, nat_abs, Some, codes, decimal, sym, refl, ap, ◌∙◌, subst, append_assoc, zero-add, arith, lit<, length-drop, rules}
 use Rattle.std.specs.Fmt.{signed_decimal}
 use Rattle.std.proofs.lemmas.List.{drop_more, drop_all, get_or-drop}
-use Rattle.std.specs.List.{AllByRecursion}
+use Rattle.std.specs.List.{AllByRecursion, list_all, enumerate_from}
+use Rattle.std.proofs.lemmas.List.FromFn.{length-enumerate_from, get_or-enumerate_from}
 use Rattle.std.proofs.ByRecursion.{All-get_or}
 use Rattle.std.proofs.lemmas.Str.Parse.{IsNumeralModel, numerals_by_fold, digits_value_short}
 use Rattle.std.proofs.lemmas.Fmt.{decimal_digit, decimal_nonempty, length-decimal-le, digits_decimal, digits_value-decimal}
 use Rattle.spans.specs.declared.minutes.Minutes.{Minutes}
 use Rattle.list_text.specs.declared.token.Mark.TheVariants.{ListOpen, Semicolon}
 use Rattle.list_text.specs.Grammar.{digit, AllOf, written, Shortest, SignedShortest, compact, One, End, Header, OneRow, AllRows, Text, ◌⨾◌}
-use Rattle.std.proofs.lemmas.Bool.{cond-true, eq-eqb}
-use Rattle.list_text.specs.Dates.{dated, dated_from, dates_listing, DatesText, Writable, Writes}
+use Rattle.std.proofs.lemmas.Bool.{cond-true, eq-eqb, both_ways, and_parts, and_from, leb-true, le-leb, lt-leb}
+use Rattle.list_text.specs.Dates.{dated, dated_from, dates_listing, DatesText, TellsWritable, Writable, Writes}
 use Rattle.list_text.proofs.Styles.{compact_says}
 
 -- ---- numbers
@@ -69,6 +70,25 @@ small_at ds (suc p) e one lt ok =
     let l = length-drop 1 ds in
     let at : get_or (drop 1 ds) p e ≡ get_or ds (suc p) e = get_or-drop 1 ds p e ∙ ap (λ k. get_or ds k e) (omega arith) in
     subst (λ d. nat_abs d.count < 10 ^ 12) at (All-get_or (λ d. nat_abs d.count < 10 ^ 12) (drop 1 ds) p e (omega arith) ok.small)
+
+-- ---- what the test of the dates tells
+abbrev pub IsSmall : Minutes → Bool
+IsSmall d = leb (nat_abs d.count) 999999999999
+
+small_from : (ds : List Minutes) → list_all IsSmall ds ≡ true → AllByRecursion (λ d. nat_abs d.count < 10 ^ 12) ds
+small_from [] e = tt
+small_from (d ∷ ds) e = let h = and_parts _ _ e in (let le = leb-true (nat_abs d.count) 999999999999 h.0 in omega arith, small_from ds h.1)
+
+from_small : (ds : List Minutes) → AllByRecursion (λ d. nat_abs d.count < 10 ^ 12) ds → list_all IsSmall ds ≡ true
+from_small [] a = refl
+from_small (d ∷ ds) a = and_from _ _ (le-leb (nat_abs d.count) 999999999999 (let lt : nat_abs d.count < 10 ^ 12 = a.0 in omega arith)) (from_small ds a.1)
+
+pub tells_small : (ds : List Minutes) (b : Bool) → length ds < 10 ^ 12 → b ≡ list_all IsSmall (drop 1 ds) → TellsWritable ds b
+tells_small ds true few e = record { few = few; small = small_from (drop 1 ds) (sym e) }
+tells_small ds false few e = λ t x. both_ways _ (sym e) (from_small (drop 1 ds) (text_writable ds t x).small)
+
+pub tells_many : (ds : List Minutes) → 999999999999 < length ds → TellsWritable ds (leb (length ds) 999999999999)
+tells_many ds many = subst (TellsWritable ds) (sym (lt-leb (length ds) 999999999999 many)) (λ t x. let few = (text_writable ds t x).few in omega arith)
 
 -- ---- the bytes of a header and of a row
 abbrev pub header_bytes : ℕ → List ℕ
@@ -155,6 +175,27 @@ so_far_row ds p t r e lt h s = record {
       let here : AllRows compact (dated_from p (get_or ds p e ∷ drop (p + 1) ds)) (r ++ w) (93 ∷ []) = (x.0, x.1, (w, x.2, rows)) in
       rw append_assoc (s.goes_on ok (r ++ w) (subst (λ (l : List Minutes). AllRows compact (dated_from p l) (r ++ w) (93 ∷ [])) (sym (drop_more ds p e lt)) here));
 }
+
+-- ---- the dates with their places, from place 1 on
+abbrev placed : List Minutes → List (ℕ × Minutes)
+placed ds = drop 1 (enumerate_from 0 ds)
+
+length-placed : (ds : List Minutes) → length (placed ds) ≡ length ds - 1
+length-placed ds = length-drop 1 (enumerate_from 0 ds) ∙ ap (λ n. n - 1) (length-enumerate_from 0 ds)
+
+-- the row of the next of them
+pub so_far_next : (ds : List Minutes) (k p : ℕ) (d : Minutes) (t r : List ℕ) → (k < length (placed ds)) × ((p, d) ≡ get_or (placed ds) k (p, d))
+    → (p < 10 ^ 12 → nat_abs d.count < 10 ^ 12 → Writes (One compact Semicolon ⨾ OneRow compact (dated p d)) r) → SoFar ds (1 + k) t → SoFar ds ((1 + k) + 1) (t ++ r)
+so_far_next ds k p d t r (in_it, is) h s =
+    let l = length-placed ds in
+    let lt : 1 + k < length ds = omega arith in
+    let e : (p, d) ≡ (0 + (1 + k), get_or ds (1 + k) d) = is ∙ get_or-drop 1 (enumerate_from 0 ds) k (p, d) ∙ get_or-enumerate_from 0 ds (1 + k) (p, d) lt in
+    let point : p ≡ 1 + k = ap (λ v. v.0) e ∙ zero-add (1 + k) in
+    let Row : ℕ → Minutes → Type 0 = λ q x. q < 10 ^ 12 → nat_abs x.count < 10 ^ 12 → Writes (One compact Semicolon ⨾ OneRow compact (dated q x)) r in
+    so_far_row ds (1 + k) t r d lt (subst (Row (1 + k)) (ap (λ v. v.1) e) (subst (λ q. Row q d) point h)) s
+
+pub placed_end : (ds : List Minutes) (k : ℕ) → k ≡ length (placed ds) → length ds ≤ 1 + k
+placed_end ds k e = let l = length-placed ds in omega arith
 
 dates_text : (ds : List Minutes) (t : List ℕ) → Text compact (dates_listing ds) t [] → DatesText ds t
 dates_text ds t x = record {

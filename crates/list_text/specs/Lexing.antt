@@ -1,22 +1,14 @@
--- How a text is cut into tokens. Said by private functions alone, but for `Inside`. Assumes nothing.
+-- How a text is cut into tokens. Said by private functions alone. Assumes nothing.
 use Rattle.std.specs.Prelude.{◌≡◌, ℕ, ◌+◌, ◌<◌, ◌≤◌, Bool, true, false, cond, ◌&&◌, ◌||◌, List, [], ◌∷◌, ◌++◌, length, drop, Some, None, Option, ◌==◌, ◌≢◌, nat_le, slice_index}
 use Rattle.list_text.specs.declared.token.Mark.{Mark}
 use Rattle.list_text.specs.declared.token.Token.{Token}
 use Rattle.list_text.specs.declared.token.Token.TheVariants.{Bracket, Number, Word, Stray, Finish}
 use Rattle.list_text.specs.declared.token.Lexeme.{Lexeme}
-use Rattle.list_text.specs.declared.bytes.Class.{Class}
-use Rattle.list_text.specs.declared.bytes.Class.TheVariants.{Blank, Digit, Letter}
-use Rattle.list_text.specs.Place.{longest_text}
+use Rattle.list_text.specs.declared.reader.Reader.{Reader}
 use Rattle.list_text.specs.Grammar.{Over, AllOf, blank, digit, byte}
 
 abbrev pub letter : ℕ → Bool
 letter c = (nat_le 65 c && nat_le c 90) || (nat_le 97 c && nat_le c 122)
-
--- the test of a class of bytes
-abbrev pub in_class : Class → ℕ → Bool
-in_class Blank = blank
-in_class Digit = digit
-in_class Letter = letter
 
 -- from p to q all bytes pass the test, and the next one does not
 pub record Passed (P : ℕ → Bool) (t : List ℕ) (p q : ℕ) : Type 0 where
@@ -57,17 +49,12 @@ Cut t p (Word w) q = (p < length t) × Piece (λ c. letter c ≡ true) letter t 
 Cut t p (Stray w) q = (p < length t) × (q ≡ p + 1) × Odd (slice_index t p) × (w.now ≡ slice_index t p ∷ [])
 Cut t p Finish q = (p ≡ length t) × (q ≡ p)
 
--- the next token from p on
-pub record Lexed (t : List ℕ) (p : ℕ) (x : Lexeme) : Type 0 where
-  pub gap : Passed blank t p x.place
-  pub token : Cut t x.place x.token x.after
-  pub onward : p ≤ x.after
-  pub within : x.after ≤ length t
-
--- a place in a text that is not too long
-pub record Inside (t : List ℕ) (p : ℕ) : Type 0 where
-  pub within : p ≤ length t
-  pub short : length t ≤ longest_text
+-- the next token from r on
+pub record Lexed (r : Reader) (x : Lexeme) : Type 0 where
+  pub gap : Passed blank r.text.now r.at x.place
+  pub token : Cut r.text.now x.place x.token x.after.at
+  pub text : x.after.text.now ≡ r.text.now
+  pub onward : r.at ≤ x.after.at
 
 abbrev pub mark_of : Token → Option Mark
 mark_of (Bracket m w) = Some m

@@ -5,4 +5,5 @@ pub mod Filling
 pub mod Machine
 pub mod Lexing
 pub mod Reading
+pub mod Scanning
 pub mod Dates

@@ -17,6 +17,11 @@ pub record FaultAt (t : List ℕ) (p : ℕ) : Type 0 where
 abbrev pub longest_text : ℕ
 longest_text = 65536
 
+-- a place in a text that is not too long
+pub record Inside (t : List ℕ) (p : ℕ) : Type 0 where
+  pub within : p ≤ length t
+  pub short : length t ≤ longest_text
+
 -- why a text is turned away, and with which place: it is too long, or has a fault there
 abbrev pub TurnedAway : List ℕ → ℕ → Type 0
 TurnedAway t p = ((longest_text < length t) × (p ≡ longest_text)) ⊎ ((length t ≤ longest_text) × FaultAt t p)

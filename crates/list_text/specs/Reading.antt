@@ -1,38 +1,40 @@
--- What it is to read on from a place: the machine goes from a state at p to a state at q, or gets stuck at a place.
--- `conditions_from` is what a `ListText` means, and `read` promises that this is what its text denotes; `Readable` is what `fill` promises under and `read` promises of what it makes. The others are said by private functions alone. Assumes nothing.
-use Rattle.std.specs.Prelude.{◌≡◌, ℕ, ◌+◌, ◌-◌, ◌<◌, ◌≤◌, cond, ◌&&◌, ◌⊎◌, List, [], ◌∷◌, ◌++◌, length, drop, Some, None, Ok, Err, Option, Result, nat_le, slice_index_or, slice_set}
+-- What it is to read on: the machine goes from a state at one reader to a state at another, or gets stuck at a place.
+-- `conditions_from` is what a `ListText` means, and `read` promises that this is what its text denotes; `reads_rows` holds of each `ListText`. The others are said by private functions alone, or by proofs. Assumes nothing.
+use Rattle.std.specs.Prelude.{◌≡◌, ℕ, ◌+◌, ◌-◌, ◌<◌, ◌≤◌, Bool, true, false, cond, ◌&&◌, ◌⊎◌, List, [], ◌∷◌, ◌++◌, length, drop, Some, None, Ok, Err, Option, Result, nat_le, slice_index_or, slice_set}
 use Rattle.spans.specs.declared.minutes.Minutes.{Minutes}
 use Rattle.networks.specs.declared.window.Window.{Window}
 use Rattle.networks.specs.declared.rows.Row.{Row}
 use Rattle.networks.specs.Network.{Condition, no_condition, open_window, window_of}
 use Rattle.networks.specs.Rows.{room}
-use Rattle.list_text.specs.Grammar.{Listing, Says, network}
-use Rattle.list_text.specs.Place.{longest_text, FaultAt}
-use Rattle.list_text.specs.Lexing.{Inside}
+use Rattle.list_text.specs.Grammar.{Listing}
+use Rattle.list_text.specs.Place.{longest_text, Inside}
+use Rattle.list_text.specs.declared.reader.Reader.{Reader}
+use Rattle.list_text.specs.declared.reader.Misread.{Misread}
 use Rattle.list_text.specs.Machine.{State, finished, windows_start, in_row, rows_more, run, Outcome, reads, stuck}
 
--- from the state s at p to the state k at q
-pub record Leads (t : List ℕ) (p : ℕ) (s : State) (q : ℕ) (k : State) : Type 0 where
-  pub leads : run p s (drop p t) ≡ run q k (drop q t)
+-- what is still to be read
+abbrev pub ahead : Reader → List ℕ
+ahead r = drop r.at r.text.now
 
--- from the state s at p to a fault at e
-pub record Faults (t : List ℕ) (p : ℕ) (s : State) (e : ℕ) : Type 0 where
-  pub faults : run p s (drop p t) ≡ stuck e
+-- from the state s at r to the state k at q, which is in the same text and not before r
+pub record Leads (r : Reader) (s : State) (q : Reader) (k : State) : Type 0 where
+  pub text : q.text.now ≡ r.text.now
+  pub onward : r.at ≤ q.at
+  pub leads : run r.at s (ahead r) ≡ run q.at k (ahead q)
 
--- a place that is behind p in the text
-pub record Behind (t : List ℕ) (p q : ℕ) : Type 0 where
-  pub onward : p ≤ q
-  pub within : q ≤ length t
+-- from the state s at r to a fault at e
+pub record Faults (r : Reader) (s : State) (e : ℕ) : Type 0 where
+  pub faults : run r.at s (ahead r) ≡ stuck e
 
--- the place behind what was read, or that of the fault
-abbrev pub Passes : List ℕ → ℕ → State → State → Result ℕ ℕ → Type 0
-Passes t p s k (Ok q) = Leads t p s q k
-Passes t p s k (Err e) = Faults t p s e
+-- the reader behind what was read, or the fault
+abbrev pub Passes : Reader → State → State → Result Reader Misread → Type 0
+Passes r s k (Ok q) = Leads r s q k
+Passes r s k (Err e) = Faults r s e.place
 
--- what was read and the place behind it, or that of the fault
-abbrev pub Reads : {A : Type 0} → List ℕ → ℕ → State → (A → State) → Result (A × ℕ) ℕ → Type 0
-Reads t p s k (Ok v) = Leads t p s v.1 (k v.0)
-Reads t p s k (Err e) = Faults t p s e
+-- what was read and the reader behind it, or the fault
+abbrev pub Reads : {A : Type 0} → Reader → State → (A → State) → Result (A × Reader) Misread → Type 0
+Reads r s k (Ok v) = Leads r s v.1 (k v.0)
+Reads r s k (Err e) = Faults r s e.place
 
 -- a row that has the points and the number of windows of a condition, and in its room four of its windows from one on
 pub record Shows (c : Condition Minutes) (pick : ℕ) (r : Row Minutes) : Type 0 where
@@ -49,24 +51,29 @@ pub record OneMore (r : Row Minutes) (pick : ℕ) (w : Window Minutes) (r' : Row
   pub room : room r' ≡ cond (nat_le pick r.count) (slice_set (room r) (r.count - pick) w) (room r)
 
 -- the windows behind `[`, up to and with `]`
-abbrev pub ReadsWindows : List ℕ → ℕ → ℕ → ℕ → ℕ → Result (Row Minutes × ℕ) ℕ → Type 0
-ReadsWindows t p i j pick (Ok v) =
+abbrev pub ReadsWindows : Reader → ℕ → ℕ → ℕ → Result (Row Minutes × Reader) Misread → Type 0
+ReadsWindows r i j pick (Ok v) =
     (ws : List (Window Minutes)) × Shows (record { from = i; to = j; windows = ws }) pick v.0
-    × ((k : List (Window Minutes) → State) → Leads t p (windows_start k) v.1 (k ws))
-ReadsWindows t p i j pick (Err e) = (k : List (Window Minutes) → State) → Faults t p (windows_start k) e
+    × ((k : List (Window Minutes) → State) → Leads r (windows_start k) v.1 (k ws))
+ReadsWindows r i j pick (Err e) = (k : List (Window Minutes) → State) → Faults r (windows_start k) e.place
 
 -- a row behind its first bracket
-abbrev pub ReadsRow : List ℕ → ℕ → ℕ → Result (Row Minutes × ℕ) ℕ → Type 0
-ReadsRow t p pick (Ok v) =
-    (c : Condition Minutes) × Shows c pick v.0 × ((k : Condition Minutes → State) → Leads t p (in_row k) v.1 (k c))
-ReadsRow t p pick (Err e) = (k : Condition Minutes → State) → Faults t p (in_row k) e
+abbrev pub ReadsRow : Reader → ℕ → Result (Row Minutes × Reader) Misread → Type 0
+ReadsRow r pick (Ok v) =
+    (c : Condition Minutes) × Shows c pick v.0 × ((k : Condition Minutes → State) → Leads r (in_row k) v.1 (k c))
+ReadsRow r pick (Err e) = (k : Condition Minutes → State) → Faults r (in_row k) e.place
 
--- the rows up to the last bracket: how many, and row j
-abbrev pub ReadsRows : List ℕ → ℕ → ℕ → ℕ → Result ((ℕ × Row Minutes) × ℕ) ℕ → Type 0
-ReadsRows t p j pick (Ok v) =
-    (cs : List (Condition Minutes)) × (length cs ≡ v.0.0) × Shows (slice_index_or cs j no_condition) pick v.0.1
-    × ((n m : ℕ) → Leads t p (rows_more n m []) v.1 (finished (record { first = n; second = m; conditions = cs })))
-ReadsRows t p j pick (Err e) = (n m : ℕ) → Faults t p (rows_more n m []) e
+-- the rows up to the last bracket
+abbrev pub ReadsRows : Reader → Result Reader Misread → Type 0
+ReadsRows r (Ok q) =
+    (cs : List (Condition Minutes)) × ((n m : ℕ) → Leads r (rows_more n m []) q (finished (record { first = n; second = m; conditions = cs })))
+ReadsRows r (Err e) = (n m : ℕ) → Faults r (rows_more n m []) e.place
+
+-- the rows up to the end of the text
+abbrev pub ReadsAll : Reader → Result (Unit {0}) Misread → Type 0
+ReadsAll r (Ok v) =
+    (cs : List (Condition Minutes)) × ((n m : ℕ) → run r.at (rows_more n m []) (ahead r) ≡ reads (record { first = n; second = m; conditions = cs }))
+ReadsAll r (Err e) = (n m : ℕ) → Faults r (rows_more n m []) e.place
 
 -- ---- the source
 abbrev pub conditions_of : Outcome → List (Condition Minutes)
@@ -77,13 +84,21 @@ conditions_of (stuck p) = []
 unfoldable pub conditions_from : List ℕ → ℕ → List (Condition Minutes)
 conditions_from t p = cond (nat_le (length t) longest_text && nat_le p (length t)) (conditions_of (run p (rows_more 0 0 []) (drop p t))) []
 
--- what one look at the rows shows of condition k and its window w
-pub record Looked (cs : List (Condition Minutes)) (k w : ℕ) (v : ℕ × Row Minutes) : Type 0 where
-  pub many : v.0 ≡ length cs
-  pub from : v.1.from ≡ (slice_index_or cs k no_condition).from
-  pub to : v.1.to ≡ (slice_index_or cs k no_condition).to
-  pub count : v.1.count ≡ length (slice_index_or cs k no_condition).windows
-  pub window : v.1.first ≡ window_of (slice_index_or cs k no_condition) w
+-- read to the end, and not stuck
+abbrev pub ends : Outcome → Bool
+ends (reads l) = true
+ends (stuck p) = false
+
+-- whether rows stand in a text from a place on, up to its end
+abbrev pub reads_rows : List ℕ → ℕ → Bool
+reads_rows t p = ends (run p (rows_more 0 0 []) (drop p t))
+
+-- what a row shows of condition k and its window w
+pub record Looked (cs : List (Condition Minutes)) (k w : ℕ) (r : Row Minutes) : Type 0 where
+  pub from : r.from ≡ (slice_index_or cs k no_condition).from
+  pub to : r.to ≡ (slice_index_or cs k no_condition).to
+  pub count : r.count ≡ length (slice_index_or cs k no_condition).windows
+  pub window : r.first ≡ window_of (slice_index_or cs k no_condition) w
 
 -- from the place p on there are rows, up to the end of a text that is not too long, and these are the conditions
 pub record Readable (t : List ℕ) (p : ℕ) : Type 0 where
@@ -92,16 +107,11 @@ pub record Readable (t : List ℕ) (p : ℕ) : Type 0 where
   pub reads_it : run p (rows_more 0 0 []) (drop p t) ≡ reads listing
   pub means_it : conditions_from t p ≡ listing.conditions
 
--- what reading a whole text finds: its points and the place behind its header, or the place of its fault
-abbrev pub Scanned : List ℕ → Result (ℕ × ℕ) ℕ → Type 0
-Scanned t (Ok v) = (l : Listing) × Says t l × ((network l).points ≡ v.0) × (conditions_from t v.1 ≡ l.conditions) × Readable t v.1
-Scanned t (Err e) = FaultAt t e
-
 -- the next row, where there is one; else the last bracket, or a fault
-abbrev pub NextRow : List ℕ → ℕ → Option (Row Minutes × ℕ) → Type 0
-NextRow t p (Some v) =
-    (c : Condition Minutes) × Shows c 0 v.0 × (p < v.1) × (v.1 ≤ length t)
-    × ((n m : ℕ) (cs : List (Condition Minutes)) → Leads t p (rows_more n m cs) v.1 (rows_more n m (cs ++ (c ∷ []))))
-NextRow t p None =
-    ((q : ℕ) × ((n m : ℕ) (cs : List (Condition Minutes)) → Leads t p (rows_more n m cs) q (finished (record { first = n; second = m; conditions = cs }))))
-    ⊎ ((e : ℕ) × ((n m : ℕ) (cs : List (Condition Minutes)) → Faults t p (rows_more n m cs) e))
+abbrev pub NextRow : Reader → ℕ → Option (Row Minutes × Reader) → Type 0
+NextRow r pick (Some v) =
+    (c : Condition Minutes) × Shows c pick v.0 × (r.at < v.1.at)
+    × ((n m : ℕ) (cs : List (Condition Minutes)) → Leads r (rows_more n m cs) v.1 (rows_more n m (cs ++ (c ∷ []))))
+NextRow r pick None =
+    ((q : Reader) × ((n m : ℕ) (cs : List (Condition Minutes)) → Leads r (rows_more n m cs) q (finished (record { first = n; second = m; conditions = cs }))))
+    ⊎ ((e : ℕ) × ((n m : ℕ) (cs : List (Condition Minutes)) → Faults r (rows_more n m cs) e))

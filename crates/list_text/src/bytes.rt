@@ -1,33 +1,12 @@
-// Classes of bytes, and how far bytes of a class reach.
-// For this crate alone: what a function here requires, each of its callers proves.
-ghost use Rattle.std.specs.Prelude.{◌≡◌, ◌≤◌, length};
-ghost use Rattle.list_text.specs.Lexing.{in_class, Passed};
+// How far bytes of one kind reach.
+ghost use Rattle.std.specs.Prelude.{◌≡◌, ◌≤◌, ℕ, Bool, length};
+ghost use Rattle.std.specs.List.{prefix_len};
 
-#[derive(Clone, Copy)]
-pub enum Class {
-    Blank,
-    Digit,
-    Letter,
-}
-
-fn is_of(class: Class, b: u8) -> bool
-    ensures { result ≡ in_class class b }
+// How many bytes in front pass the test.
+pub(crate) fn front<F: Fn(u8) -> bool>(bytes: &[u8], is_of: F) -> usize
+    requires { F.IsAlwaysCallable is_of }
+    ensures many { (test : ℕ → Bool) → ((b : ℕ) (r : Bool) → F.post is_of b r → r ≡ test b) → result ≡ prefix_len test bytes.now }
+    ensures within { result ≤ length bytes.now }
 {
-    match class {
-        Class::Blank => b == b' ' || b == b'\t' || b == b'\n' || b == b'\r',
-        Class::Digit => b >= b'0' && b <= b'9',
-        Class::Letter => (b >= b'A' && b <= b'Z') || (b >= b'a' && b <= b'z'),
-    }
-}
-
-// The place behind the bytes of the class that stand from `from` on.
-pub(crate) fn past(class: Class, text: &[u8], from: usize) -> usize
-    requires { from ≤ length text.now }
-    ensures { Passed (in_class class) text.now from result }
-{
-    let mut p = from;
-    while p < text.len() && is_of(class, text[p]) {
-        p += 1;
-    }
-    p
+    bytes.iter().take_while(|b| is_of(**b)).count()
 }

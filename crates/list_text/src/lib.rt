@@ -3,14 +3,17 @@
 #![tactic(auto)]
 
 mod bytes;
-mod filling;
+mod following;
 mod lexer;
 mod numbers;
+mod reader;
 mod rows;
 mod source;
+mod text;
 mod token;
 mod windows;
 mod writing;
 
-pub use source::{FromText, ListText};
+pub use source::FromText;
+pub use text::ListText;
 pub use writing::write_dates;

@@ -1,15 +1,12 @@
-// Reads rows and the header. Each function answers what it read and the place behind it, or the place of the fault.
-// For this crate alone: what a function here requires, each of its callers proves.
-ghost use Rattle.std.specs.Prelude.{◌≡◌, ◌<◌, [], IfOk, slice_set};
+// Reads rows and the header. Each function answers what it read and the reader behind it, or the place of the fault.
+// What `one_more` requires, its caller proves.
+ghost use Rattle.std.specs.Prelude.{◌≡◌, ◌<◌, [], slice_set};
 ghost use Rattle.networks.specs.Rows.{room};
-ghost use Rattle.list_text.specs.Lexing.{Inside};
 ghost use Rattle.list_text.specs.Machine.{start, rows_more};
-ghost use Rattle.list_text.specs.Reading.{Behind, Reads, OneMore, ReadsWindows, ReadsRow, ReadsRows, NextRow};
+ghost use Rattle.list_text.specs.Reading.{Reads, OneMore, ReadsWindows, ReadsRow, ReadsRows, ReadsAll, NextRow};
 
-use crate::lexer::{is_mark, next};
-use crate::numbers::{expect, numeral};
+use crate::reader::{Misread, Reader};
 use crate::token::Mark;
-use crate::windows::window;
 use networks::{Row, Window};
 use spans::Minutes;
 
@@ -41,121 +38,107 @@ fn one_more(row: Row<Minutes>, pick: usize, w: Window<Minutes>) -> Row<Minutes>
     more
 }
 
-// The windows behind `[`, up to and with `]`: their number, and the four from `pick` on.
-fn windows(
-    text: &[u8],
-    from: usize,
-    i: usize,
-    j: usize,
-    pick: usize,
-) -> Result<(Row<Minutes>, usize), usize>
-    requires { Inside text.now from }
-    ensures behind { IfOk result (λ v. Behind text.now from v.1) }
-    ensures reads { ReadsWindows text.now from i j pick result }
-{
-    let mut row = Row::new(i, j, &[]);
-    let x = next(text, from);
-    if is_mark(x.token, Mark::ListClose) {
-        return Ok((row, x.after));
-    }
-    if !is_mark(x.token, Mark::Open) {
-        return Err(x.place);
-    }
-    let mut p = x.after;
-    loop {
-        let (w, q) = window(text, p)?;
-        row = one_more(row, pick, w);
-        let y = next(text, q);
-        if is_mark(y.token, Mark::ListClose) {
-            return Ok((row, y.after));
+impl<'a> Reader<'a> {
+    // The windows behind `[`, up to and with `]`: their number, and the four from `pick` on, in a row from `i` to `j`.
+    fn windows(self, i: usize, j: usize, pick: usize) -> Result<(Row<Minutes>, Reader<'a>), Misread>
+        ensures { ReadsWindows self.entry i j pick result }
+    {
+        let mut row = Row::new(i, j, &[]);
+        let x = self.next();
+        if x.is(Mark::ListClose) {
+            return Ok((row, x.after));
         }
-        if !is_mark(y.token, Mark::Semicolon) {
-            return Err(y.place);
+        if !x.is(Mark::Open) {
+            return Err(Misread { place: x.place });
         }
-        p = expect(text, y.after, Mark::Open)?;
+        // Kept as a loop: it tells the place of a fault, which an iterator of windows would end at.
+        let mut p = x.after;
+        loop {
+            let (w, q) = p.window()?;
+            row = one_more(row, pick, w);
+            let y = q.next();
+            if y.is(Mark::ListClose) {
+                return Ok((row, y.after));
+            }
+            if !y.is(Mark::Semicolon) {
+                return Err(Misread { place: y.place });
+            }
+            p = y.after.expect(Mark::Open)?;
+        }
     }
-}
 
-// A row behind its first bracket.
-fn row(text: &[u8], from: usize, pick: usize) -> Result<(Row<Minutes>, usize), usize>
-    requires { Inside text.now from }
-    ensures behind { IfOk result (λ v. Behind text.now from v.1) }
-    ensures reads { ReadsRow text.now from pick result }
-{
-    let ((_, i), p) = numeral(text, from, false)?;
-    let q = expect(text, p, Mark::Comma)?;
-    let ((_, j), s) = numeral(text, q, false)?;
-    let t = expect(text, s, Mark::Comma)?;
-    let u = expect(text, t, Mark::ListOpen)?;
-    let (row, v) = windows(text, u, i as usize, j as usize, pick)?;
-    let after = expect(text, v, Mark::Close)?;
-    Ok((row, after))
-}
-
-// The rows up to the last bracket: how many there are, and row number `j` with its windows from `pick` on.
-pub(crate) fn rows(
-    text: &[u8],
-    from: usize,
-    j: usize,
-    pick: usize,
-) -> Result<((usize, Row<Minutes>), usize), usize>
-    requires { Inside text.now from }
-    ensures behind { IfOk result (λ v. Behind text.now from v.1) }
-    ensures reads { ReadsRows text.now from j pick result }
-{
-    let mut seen = Row::new(0, 0, &[]);
-    let mut count = 0;
-    let mut p = from;
-    loop {
-        let x = next(text, p);
-        if is_mark(x.token, Mark::ListClose) {
-            return Ok(((count, seen), x.after));
-        }
-        if !is_mark(x.token, Mark::Semicolon) {
-            return Err(x.place);
-        }
-        let q = expect(text, x.after, Mark::Open)?;
-        let (read, s) = row(text, q, pick)?;
-        if count == j {
-            seen = read;
-        }
-        count += 1;
-        p = s;
+    // A row behind its first bracket, with its windows from `pick` on.
+    fn row(self, pick: usize) -> Result<(Row<Minutes>, Reader<'a>), Misread>
+        ensures { ReadsRow self.entry pick result }
+    {
+        let (i, p) = self.natural()?;
+        let q = p.expect(Mark::Comma)?;
+        let (j, s) = q.natural()?;
+        let t = s.expect(Mark::Comma)?;
+        let u = t.expect(Mark::ListOpen)?;
+        let (row, v) = u.windows(i, j, pick)?;
+        let after = v.expect(Mark::Close)?;
+        Ok((row, after))
     }
-}
 
-// The first bracket and the header: its two numbers.
-pub(crate) fn header(text: &[u8]) -> Result<((usize, usize), usize), usize>
-    requires { Inside text.now 0 }
-    ensures behind { IfOk result (λ v. Behind text.now 0 v.1) }
-    ensures reads { Reads text.now 0 start (λ v. rows_more v.0 v.1 []) result }
-{
-    let a = expect(text, 0, Mark::ListOpen)?;
-    let b = expect(text, a, Mark::Open)?;
-    let ((_, first), c) = numeral(text, b, false)?;
-    let d = expect(text, c, Mark::Comma)?;
-    let ((_, second), e) = numeral(text, d, false)?;
-    let f = expect(text, e, Mark::Comma)?;
-    let g = expect(text, f, Mark::ListOpen)?;
-    let h = expect(text, g, Mark::ListClose)?;
-    let after = expect(text, h, Mark::Close)?;
-    Ok(((first as usize, second as usize), after))
-}
-
-// The row behind the next semicolon and the place behind it; none where no row follows.
-pub(crate) fn next_row(text: &[u8], from: usize) -> Option<(Row<Minutes>, usize)>
-    requires { Inside text.now from }
-    ensures { NextRow text.now from result }
-{
-    let x = next(text, from);
-    if !is_mark(x.token, Mark::Semicolon) {
-        return None;
+    // The reader behind the rows and the last bracket.
+    fn rows(self) -> Result<Reader<'a>, Misread>
+        ensures { ReadsRows self.entry result }
+    {
+        // Kept as a loop: it tells the place of a fault, which the iterator of rows ends at.
+        let mut p = self;
+        loop {
+            let x = p.next();
+            if x.is(Mark::ListClose) {
+                return Ok(x.after);
+            }
+            if !x.is(Mark::Semicolon) {
+                return Err(Misread { place: x.place });
+            }
+            let q = x.after.expect(Mark::Open)?;
+            let (_, after) = q.row(0)?;
+            p = after;
+        }
     }
-    let Ok(p) = expect(text, x.after, Mark::Open) else {
-        return None;
-    };
-    match row(text, p, 0) {
-        Ok(read) => Some(read),
-        Err(_) => None,
+
+    // That there are rows up to the end of the text.
+    pub(crate) fn all_rows(self) -> Result<(), Misread>
+        ensures { ReadsAll self.entry result }
+    {
+        let end = self.rows()?;
+        let x = end.next();
+        if x.is_finish() {
+            Ok(())
+        } else {
+            Err(Misread { place: x.place })
+        }
+    }
+
+    // The first bracket and the header: its two numbers.
+    pub(crate) fn header(self) -> Result<((usize, usize), Reader<'a>), Misread>
+        ensures { Reads self.entry start (λ v. rows_more v.0 v.1 []) result }
+    {
+        let a = self.expect(Mark::ListOpen)?;
+        let b = a.expect(Mark::Open)?;
+        let (first, c) = b.natural()?;
+        let d = c.expect(Mark::Comma)?;
+        let (second, e) = d.natural()?;
+        let f = e.expect(Mark::Comma)?;
+        let g = f.expect(Mark::ListOpen)?;
+        let h = g.expect(Mark::ListClose)?;
+        let after = h.expect(Mark::Close)?;
+        Ok(((first, second), after))
+    }
+
+    // The row behind the next semicolon, with its windows from `pick` on, and the reader behind it; none where no row follows.
+    pub(crate) fn next_row(self, pick: usize) -> Option<(Row<Minutes>, Reader<'a>)>
+        ensures { NextRow self.entry pick result }
+    {
+        let x = self.next();
+        if !x.is(Mark::Semicolon) {
+            return None;
+        }
+        let p = x.after.expect(Mark::Open).ok()?;
+        p.row(pick).ok()
     }
 }

@@ -1,4 +1,7 @@
 // The tokens of list text: each borrows its bytes of the text, and stands with its place.
+ghost use Rattle.std.specs.Prelude.{◌≡◌, Some, Decides};
+
+use crate::reader::Reader;
 
 // The brackets and the signs between them, each one byte.
 #[derive(Clone, Copy, PartialEq, Eq)]
@@ -25,10 +28,28 @@ pub enum Token<'a> {
     Finish,
 }
 
-// A token, the place where it begins and the place behind it.
+// A token, the place where it begins, and the reader behind it.
 #[derive(Clone, Copy)]
 pub struct Lexeme<'a> {
     pub place: usize,
     pub token: Token<'a>,
-    pub after: usize,
+    pub after: Reader<'a>,
+}
+
+impl Lexeme<'_> {
+    ghost use Rattle.list_text.specs.Lexing.{mark_of};
+    ghost use Rattle.list_text.specs.declared.token.Token.TheVariants.{Finish};
+
+    // Whether it is the mark.
+    pub fn is(self, mark: Mark) -> bool
+        ensures { Decides result (mark_of self.entry.token ≡ Some mark) }
+    {
+        matches!(self.token, Token::Bracket(m, _) if m == mark)
+    }
+
+    pub fn is_finish(self) -> bool
+        ensures { Decides result (self.entry.token ≡ Finish) }
+    {
+        matches!(self.token, Token::Finish)
+    }
 }

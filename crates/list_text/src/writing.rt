@@ -1,5 +1,6 @@
 // Writes dates as list text, with no blanks and the shortest numerals.
-ghost use Rattle.std.specs.Prelude.{◌^◌, ◌<◌, IfOk, IfErr, string_bytes, unsigned_abs};
+ghost use Rattle.std.specs.Prelude.{◌≡◌, ◌^◌, ◌<◌, IfOk, IfErr, string_bytes, unsigned_abs, drop, nat_le};
+ghost use Rattle.std.specs.List.{list_all};
 ghost use Rattle.list_text.specs.Dates.{dated, DatesText, TellsWritable, TextOfDates, Writable, Writes};
 ghost use Rattle.list_text.specs.Grammar.{compact, One, OneRow, Header, ◌⨾◌};
 ghost use Rattle.list_text.specs.declared.token.Mark.TheVariants.{ListOpen, Semicolon};
@@ -25,18 +26,21 @@ fn row(heap: Global, point: usize, date: Minutes) -> Result<String, AllocError>
     format!(in heap; ";(0,{point},[(E({d}),E({d}))])")
 }
 
+// Whether 12 digits write each date but the first.
+fn small(dates: &[Minutes]) -> bool
+    ensures { result ≡ list_all (λ d. nat_le (unsigned_abs d.count) GREATEST) (drop 1 dates.now) }
+{
+    dates
+        .iter()
+        .skip(1)
+        .all(|date| date.count.unsigned_abs() <= GREATEST)
+}
+
 // Whether 12 digits write the number of the dates, and each of them but the first.
 fn writable(dates: &[Minutes]) -> bool
     ensures { TellsWritable dates.now result }
 {
-    let mut i = 1;
-    while i < dates.len() {
-        if dates[i].count.unsigned_abs() > GREATEST {
-            return false;
-        }
-        i += 1;
-    }
-    dates.len() as u64 <= GREATEST
+    dates.len() as u64 <= GREATEST && small(dates)
 }
 
 // The text that gives each point but the first its date, seen from the first.
@@ -44,8 +48,8 @@ fn written(heap: Global, dates: &[Minutes]) -> Result<String, AllocError>
     ensures { IfOk result (λ s. Writable dates.now → DatesText dates.now (string_bytes s)) }
 {
     let mut text = header(heap, dates.len())?;
-    for point in 1..dates.len() {
-        let one = row(heap, point, dates[point])?;
+    for (point, date) in dates.iter().enumerate().skip(1) {
+        let one = row(heap, point, *date)?;
         text.push_str(one.as_str())?;
     }
     text.push_str("]")?;

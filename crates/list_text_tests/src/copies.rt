@@ -14,10 +14,7 @@ fn minutes(count: i64) -> Minutes {
 }
 
 fn count(span: Option<Minutes>) -> i64 {
-    match span {
-        Some(a) => a.count,
-        None => -99,
-    }
+    span.map_or(-99, |a| a.count)
 }
 
 // The two points of a row, the number of its windows and the ends of its first two; -99 for a missing end.
@@ -43,16 +40,12 @@ fn filled(
     first: usize,
 ) -> Option<(usize, [((usize, usize, usize), (i64, i64), (i64, i64)); 4])> {
     let mut rows = [Row::new(7, 8, &[]); 4];
-    match ListText::read(text.as_bytes()) {
-        Err(_) => None,
-        Ok(source) => {
-            let n = source.fill(first, &mut rows);
-            Some((
-                n,
-                [told(rows[0]), told(rows[1]), told(rows[2]), told(rows[3])],
-            ))
-        }
-    }
+    let source = ListText::read(text.as_bytes()).ok()?;
+    let n = source.fill(first, &mut rows);
+    Some((
+        n,
+        [told(rows[0]), told(rows[1]), told(rows[2]), told(rows[3])],
+    ))
 }
 
 // Rows behind the last condition keep what they had.

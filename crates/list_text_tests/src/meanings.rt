@@ -9,27 +9,22 @@ use std::test::*;
 type Told = (usize, usize, usize, Option<i64>, Option<i64>);
 
 fn count(span: Option<Minutes>) -> Option<i64> {
-    match span {
-        Some(a) => Some(a.count),
-        None => None,
-    }
+    span.map(|a| a.count)
 }
 
 // The numbers of points and conditions that the text tells of, and what it tells of condition k and its window w.
 fn told(text: &str, k: usize, w: usize) -> Option<((usize, usize), Told)> {
-    match ListText::read(text.as_bytes()) {
-        Err(_) => None,
-        Ok(source) => Some((
-            (source.points(), source.conditions()),
-            (
-                source.from(k),
-                source.to(k),
-                source.windows(k),
-                count(source.low(k, w)),
-                count(source.high(k, w)),
-            ),
-        )),
-    }
+    let source = ListText::read(text.as_bytes()).ok()?;
+    Some((
+        (source.points(), source.conditions()),
+        (
+            source.from(k),
+            source.to(k),
+            source.windows(k),
+            count(source.low(k, w)),
+            count(source.high(k, w)),
+        ),
+    ))
 }
 
 // Whether each text tells just this of itself and of condition k and its window w, for each (k, w).

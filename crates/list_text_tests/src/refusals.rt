@@ -5,10 +5,8 @@ use std::test::*;
 
 // The number and the detail of the text's refusal; none where it is read.
 pub fn refusal(text: &[u8]) -> Option<(usize, usize)> {
-    match ListText::read(text) {
-        Ok(_) => None,
-        Err(fault) => Some((fault.number(), fault.detail())),
-    }
+    let fault = ListText::read(text).err()?;
+    Some((fault.number(), fault.detail()))
 }
 
 // Whether each text is refused with just this place.

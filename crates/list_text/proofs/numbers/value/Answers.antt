@@ -1,14 +1,12 @@
 use Rattle.std.proofs.Common.{◌+◌, ◌-◌, ◌*◌, ◌<◌, length, get_or, sym, ap, ◌∙◌, arith}
 use Rattle.std.proofs.lemmas.List.{take_all}
+use Rattle.std.proofs.lemmas.Bool.{eqb-false}
 use Rattle.list_text.specs.Grammar.{written}
 use Rattle.list_text.proofs.Numerals.{written_more, digit_at, digits_more, ten_to}
 use Rattle.list_text.proofs.numbers.value.Goals as goal
 
 pub overflow_mul-n : goal.overflow_mul-n
 overflow_mul-n c = omega (arith, ten_to c.loop-d.d-index (omega arith))
-
-pub overflow_sub-n : goal.overflow_sub-n
-overflow_sub-n c = (digit_at c.args.digits.now c.loop-d.d-index c.requires.0 (omega arith)).0
 
 pub overflow_add-n : goal.overflow_add-n
 overflow_add-n c =
@@ -26,7 +24,8 @@ loop-d-preserved c =
 
 pub returns : goal.returns
 returns c =
-    let ds = c.args.digits.now in (
+    let ds = c.args.digits.now in
+    let some = eqb-false _ _ (sym c.is_empty.ensures ∙ c.if-is_empty.false) in (
       record {
         some = omega arith;
         few = omega arith;

@@ -1,9 +1,0 @@
-use Rattle.std.proofs.Common.{◌-◌, length}
-use Rattle.list_text.proofs.Fills.{FillSoFar}
-use Rattle.list_text.proofs.filling.fill_rows.Given as goal
-
-abbrev pub invariant-loop-filled : goal.invariant-loop-filled
-invariant-loop-filled l = FillSoFar l.text l.from l.p l.first l.count l.filled l.initial.rows l.rows
-
-abbrev pub decreases-loop-filled : goal.decreases-loop-filled
-decreases-loop-filled l = length l.text - l.p

@@ -1,9 +1,0 @@
-use Rattle.std.proofs.Common.{◌-◌, length}
-use Rattle.list_text.proofs.Listings.{WindowsSoFar}
-use Rattle.list_text.proofs.rows.windows.Given as goal
-
-abbrev pub invariant-loop-w : goal.invariant-loop-w
-invariant-loop-w l = WindowsSoFar l.text l.from l.p l.i l.j l.pick l.row
-
-abbrev pub decreases-loop-w : goal.decreases-loop-w
-decreases-loop-w l = length l.text - l.p
