@@ -17,19 +17,13 @@ pub const NO: i64 = -999999;
 
 // The number and the detail of the refusal; none where there is no refusal.
 pub fn refusal(res: Result<(), Fault>) -> Option<(usize, usize)> {
-    match res {
-        Ok(()) => None,
-        Err(fault) => Some((fault.number(), fault.detail())),
-    }
+    res.err().map(|fault| (fault.number(), fault.detail()))
 }
 
 // Whether the entries are these, row by row, and those behind them are old.
 pub fn check_matrix(rt: &impl Abort, matrix: &[Option<Minutes>], expected: &[i64]) {
     for (place, entry) in matrix.iter().enumerate() {
-        let count = match entry {
-            Some(total) => total.count,
-            None => NO,
-        };
+        let count = entry.map_or(NO, |total| total.count);
         let wanted = expected.get(place).copied().unwrap_or(OLD);
         assert_eq!(rt; (place, count), (place, wanted));
     }
@@ -83,7 +77,7 @@ pub fn total_around<T: Source>(source: &T, codes: &[u16]) -> Option<T::Span> {
         place = to;
         total = total.sum(weight)?;
     }
-    if place == start { Some(total) } else { None }
+    (place == start).then_some(total)
 }
 
 // Of three points: refused with a cycle of three edges, whose codes are given back. The codes add up to this total, the
@@ -102,10 +96,8 @@ pub fn check_contradicted<T: Source<Span = Minutes>>(
     check_matrix(rt, &matrix, &[NO; 9]);
     check_codes_behind(rt, &cycle, 3);
     let [a, b, c, _, _, _] = cycle;
-    match total_around(source, &[a, b, c]) {
-        Some(sum) => assert_eq!(rt; sum.count, total),
-        None => assert!(rt; false, "the codes are no cycle"),
-    }
+    let sum = total_around(source, &[a, b, c]);
+    assert_eq!(rt; sum.map(|sum| sum.count), Some(total));
     [a, b, c]
 }
 
