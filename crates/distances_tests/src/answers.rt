@@ -101,10 +101,8 @@ pub fn check_contradicted<T: Source<Span = Minutes>>(
     check_matrix(rt, &matrix, &[NO; 9]);
     check_codes_behind(rt, &cycle, 3);
     let [a, b, c, _, _, _] = cycle;
-    match total_around(source, &[a, b, c]) {
-        Some(sum) => assert_eq!(rt; sum.count, total),
-        None => assert!(rt; false, "the codes are no cycle"),
-    }
+    let sum = total_around(source, &[a, b, c]);
+    assert_eq!(rt; sum.map(|sum| sum.count), Some(total));
     [a, b, c]
 }
 

@@ -7,6 +7,7 @@ use layers::Hull;
 use list_text::{FromText, ListText};
 use networks::{Row, Rows, Window};
 use spans::Minutes;
+use std::array;
 use std::process::Abort;
 use std::test::Fail;
 
@@ -123,21 +124,12 @@ fn choices(rt: HostRuntime) -> Result<(), Fail> {
 
 // 48 points in a chain, each 16777216 minutes after the one before.
 fn chain() -> [Row<Minutes>; 47] {
-    let mut rows = [row(0, 1, 16777216, 16777216); 47];
-    for (k, step) in rows.iter_mut().enumerate() {
-        *step = row(k, k + 1, 16777216, 16777216);
-    }
-    rows
+    array::from_fn(|k| row(k, k + 1, 16777216, 16777216))
 }
 
 // In the chain, point j comes 16777216 minutes times j - i after point i.
 fn chain_totals() -> [i64; 2304] {
-    let mut totals = [0; 2304];
-    for (place, total) in totals.iter_mut().enumerate() {
-        let steps = (place % 48) as i64 - (place / 48) as i64;
-        *total = steps * 16777216;
-    }
-    totals
+    array::from_fn(|place| ((place % 48) as i64 - (place / 48) as i64) * 16777216)
 }
 
 // The greatest totals there are, either way.

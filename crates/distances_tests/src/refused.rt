@@ -39,16 +39,12 @@ fn by_a_rank(rt: HostRuntime) -> Result<(), Fail> {
         assert!(rt; entry.is_none());
     }
     let [a, b, c, _, _] = cycle;
-    match total_around(&source, &[a, b, c]) {
-        Some(sum) => {
-            assert_eq!(rt; (sum.first.count, sum.second.count), (0, -1));
-            Ok(())
-        },
-        None => {
-            assert!(rt; false, "the codes are no cycle");
-            Ok(())
-        },
-    }
+    let sum = total_around(&source, &[a, b, c]);
+    assert_eq!(rt;
+        sum.map(|sum| (sum.first.count, sum.second.count)),
+        Some((0, -1))
+    );
+    Ok(())
 }
 
 // The tight windows are [0, 5] from 0 to 1 and [5, 10] from 0 to 2. A value of each can be kept by itself, but 1 and 9 not
