@@ -1,5 +1,5 @@
 -- What the steps of dating give: a date that one entry allows, the further of two dates, and the furthest so far. Assumes nothing.
--- For the loops over the points before p, and for proofs.
+-- For the steps over the points before p, and for proofs.
 --     further before x y               the second where the first is missing or before it
 --     GreatestSoFar K d dates p m o  o is the greatest earliest date of p from the points below m
 --     LeastSoFar K d dates p m o     o is the least latest date of p from the points below m

@@ -40,6 +40,7 @@ impl<S: Span> Dating<'_, S> {
     }
 
     // The date of q plus the entry from q to p, where that entry is there.
+    // Kept beside earliest_from: a sum in place of a difference, and the entry of the way there in place of that back.
     fn latest_from(&self, q: usize) -> Option<S>
         requires { q < self.now.p }
         ensures { result ≡ latest S.Span.kind (date S.Span.kind self.now.dates.now q) (table self.now.n self.now.matrix.now q self.now.p) }
@@ -48,6 +49,7 @@ impl<S: Span> Dating<'_, S> {
     }
 
     // The greatest of the dates that p is not to be earlier than, from the points before it.
+    // Kept as two chains, here and below: one function of both would take the offer and the order as closures, and is longer than either.
     fn greatest_earliest(&self) -> Option<S>
         ensures { GreatestSoFar S.Span.kind (table self.now.n self.now.matrix.now) self.now.dates.now self.now.p self.now.p result }
     {

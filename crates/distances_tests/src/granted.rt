@@ -80,13 +80,10 @@ fn missing_ends(rt: HostRuntime) -> Result<(), Fail> {
     let expected = [0, 7, NO, NO, 0, NO, NO, -2, 0];
     check_rows(&rt, 3, &rows, &expected)?;
     let text = "[(3,3,[]);(0,1,[(Inf,E(7))]);(1,2,[(E(2),Inf)])]";
-    match ListText::read(text.as_bytes()) {
-        Ok(source) => check_granted(&rt, &source, &expected),
-        Err(_) => {
-            assert!(rt; false);
-            Ok(())
-        },
-    }
+    let source = ListText::read(text.as_bytes())
+        .ok()
+        .expect(&rt, "the text is read");
+    check_granted(&rt, &source, &expected)
 }
 
 // Conditions with several windows count by their hulls: here [0, 20], at least 5, and [12, 18]. Rows, hulls of rows and
@@ -113,13 +110,10 @@ fn choices(rt: HostRuntime) -> Result<(), Fail> {
     check_granted(&rt, &Hull::over(Rows::from_rows(3, &rows)), &expected)?;
     let text =
         "[(3,3,[]);(0,1,[(E(0),E(10));(E(15),E(20))]);(1,2,[(E(5),E(6));(E(9),Inf)]);(0,2,[(E(12),E(18))])]";
-    match ListText::read(text.as_bytes()) {
-        Ok(source) => check_granted(&rt, &source, &expected),
-        Err(_) => {
-            assert!(rt; false);
-            Ok(())
-        },
-    }
+    let source = ListText::read(text.as_bytes())
+        .ok()
+        .expect(&rt, "the text is read");
+    check_granted(&rt, &source, &expected)
 }
 
 // 48 points in a chain, each 16777216 minutes after the one before.

@@ -35,6 +35,7 @@ pub(crate) fn tighten_numbers<S: Spelled>(
         .min(present.len())
         .min(memory.len());
     let part = &mut memory[0..room];
+    // Kept as a match: both arms write, and the C interface answers in numbers.
     match tighten(&source, part, cycle) {
         Ok(()) => {
             write_entries(part, points * points, matrix, present);

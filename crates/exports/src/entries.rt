@@ -12,6 +12,7 @@ fn write_entry<S: Spelled>(entry: Option<S>, p: usize, matrix: &mut [i64], prese
     ensures rest { (m : ℕ) → p * S.Spelled.spelling.width + S.Spelled.spelling.width ≤ m → drop m matrix.new ≡ drop m matrix.old }
     ensures marks { (m : ℕ) → p < m → drop m present.new ≡ drop m present.old }
 {
+    // Kept as a match: both arms write, and a method of Option would take a closure that changes what it captures.
     match entry {
         Some(x) => {
             x.write(matrix, p * S::width());
