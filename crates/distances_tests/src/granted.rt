@@ -4,7 +4,7 @@ use crate::answers::{
 };
 use distances::tighten;
 use layers::Hull;
-use list_text::{FromText, ListText};
+use list_text::ListText;
 use networks::{Row, Rows, Window};
 use spans::Minutes;
 use std::array;

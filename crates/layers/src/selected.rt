@@ -8,6 +8,7 @@ use crate::layer::{Layer, Rule};
 use networks::Source;
 
 // Condition k keeps window number `windows[k]`; none where there is no such window, or k is 64 or more.
+// Kept as an array for the most conditions there can be: fixed memory, no heap.
 #[derive(Clone, Copy)]
 pub struct Selection {
     pub(crate) windows: [u8; 64],

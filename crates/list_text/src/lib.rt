@@ -14,6 +14,5 @@ mod token;
 mod windows;
 mod writing;
 
-pub use source::FromText;
 pub use text::ListText;
 pub use writing::write_dates;

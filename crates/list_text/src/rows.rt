@@ -11,6 +11,7 @@ use networks::{Row, Window};
 use spans::Minutes;
 
 // The row with the window in one of its four places; the row itself where it has no such place.
+// Kept as a match over the places: `Row` has four fields and no array, for the reason that stands beside it.
 fn with_window(row: Row<Minutes>, slot: usize, w: Window<Minutes>) -> Row<Minutes>
     ensures from { result.from ≡ row.from }
     ensures to { result.to ≡ row.to }

@@ -47,26 +47,21 @@ impl ListText<'_> {
     }
 }
 
-// A source made of a list text.
-pub trait FromText<'a>: Source<Span = Minutes> {
+impl<'a> ListText<'a> {
     // The text as a source of the network that it denotes; else refusal 12 with the place of its fault.
-    fn read(text: &'a [u8]) -> Result<Self, Fault>
-        ensures { MatchResult result (λ s. ReadAs text.now (Self.Source.means s)) (λ f. RefusedText text.now f) };
-
-    // Copies the conditions from number `first` on to the front of the rows, as many as there are and as have room; how many.
-    fn fill(&self, first: usize, rows: &mut [Row<Minutes>]) -> usize
-        ensures { Filled (Self.Source.means self.now).conditions first rows.old rows.new result };
-}
-
-impl<'a> FromText<'a> for ListText<'a> {
-    fn read(text: &'a [u8]) -> Result<ListText<'a>, Fault> {
+    pub fn read(text: &'a [u8]) -> Result<ListText<'a>, Fault>
+        ensures { MatchResult result (λ s. ReadAs text.now (⟦<ListText<'a> as Source>⟧.means s)) (λ f. RefusedText text.now f) }
+    {
         if text.len() > LONGEST_TEXT {
             return Err(Fault::Text(LONGEST_TEXT));
         }
         Ok(scan(text)?)
     }
 
-    fn fill(&self, first: usize, rows: &mut [Row<Minutes>]) -> usize {
+    // Copies the conditions from number `first` on to the front of the rows, as many as there are and as have room; how many.
+    pub fn fill(&self, first: usize, rows: &mut [Row<Minutes>]) -> usize
+        ensures { Filled (⟦<ListText<'a> as Source>⟧.means self.now).conditions first rows.old rows.new result }
+    {
         let mut following = Following {
             reader: self.rows,
             pick: 0,

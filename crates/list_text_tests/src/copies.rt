@@ -1,5 +1,5 @@
 // Rows filled from a text, and dates written as one.
-use list_text::{FromText, ListText, write_dates};
+use list_text::{ListText, write_dates};
 use networks::Row;
 use spans::Minutes;
 use std::alloc::Global;

@@ -1,5 +1,5 @@
 // What good texts mean: their points, their conditions, and the windows of these.
-use list_text::{FromText, ListText};
+use list_text::ListText;
 use networks::Source;
 use spans::Minutes;
 use std::process::Abort;

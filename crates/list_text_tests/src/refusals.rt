@@ -1,5 +1,5 @@
 // Which texts are turned away, each with refusal 12 and the place of its fault.
-use list_text::{FromText, ListText};
+use list_text::ListText;
 use std::process::Abort;
 use std::test::*;
 

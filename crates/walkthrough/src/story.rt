@@ -7,7 +7,7 @@ use crate::job::{BRAKE_CHANGE, POINTS, point_name};
 use crate::words::{Refused, in_minutes};
 use checks::check;
 use layers::{Hull, Selected};
-use list_text::{FromText, ListText};
+use list_text::ListText;
 use networks::{Fault, Lent, Row, Rows, Source, Window};
 use spans::Minutes;
 use std::io;

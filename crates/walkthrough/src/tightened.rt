@@ -3,7 +3,7 @@ use crate::job::{BRAKE_CHANGE, POINTS, point_name};
 use crate::story::{hull_of, tell_condition, tell_fault};
 use crate::words::{Refused, in_hours};
 use distances::tighten;
-use list_text::{FromText, ListText};
+use list_text::ListText;
 use networks::{Fault, Row, Rows, Source, Window};
 use spans::{Minutes, Span};
 use std::io;

@@ -1,7 +1,7 @@
 use Rattle.std.proofs.Common.{refl, inl, inr}
 use Rattle.std.proofs.lemmas.Result.{err_from_is_err_and}
 use Rattle.list_text.proofs.Texts.{read_as, too_long_once, fault_once}
-use Rattle.list_text.proofs.source.ListTextFromText.read.Goals as goal
+use Rattle.list_text.proofs.text.ListText.read.Goals as goal
 
 pub returns-then-text-gt-LONGEST_TEXT : goal.returns-then-text-gt-LONGEST_TEXT
 returns-then-text-gt-LONGEST_TEXT c = record {
