@@ -9,11 +9,8 @@ use crate::cycle::give_up;
 use crate::link::Link;
 use crate::route::Ways;
 use checks::check;
-use networks::{Fault, Lent, MOST_POINTS, Source};
+use networks::{Fault, Lent, MOST_ENTRIES, Source};
 use spans::Span;
-
-// The entries of the largest matrix.
-const MOST_ENTRIES: usize = MOST_POINTS * MOST_POINTS;
 
 // For a source whose network is legal, and memory that suffices, as the checks show.
 fn tighten_checked<T: Source>(

@@ -13,16 +13,13 @@ ghost use Rattle.exports.specs.Spelling.{minute_spelling, rank_spelling};
 ghost use Rattle.exports.specs.Meaning.{numbers_network, most_entries, AllOrNone, Answered};
 
 use calls::{close_numbers, tighten_numbers};
-use networks::MOST_POINTS;
+use networks::{MOST_ENTRIES, MOST_POINTS};
 use spans::{MinuteRank, Minutes};
 
 mod calls;
 mod entries;
 mod numbers;
 mod spelled;
-
-// The entries of the largest matrix: 48 points by 48.
-const MOST_ENTRIES: usize = 2304;
 
 // Kept as a function for each kind, here and below: the C interface needs names and types that C knows. Beside the memory, whose size goes by
 // the kind, all is said once, for any kind.

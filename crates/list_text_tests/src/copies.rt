@@ -9,10 +9,6 @@ use std::test::*;
 const THREE: &str =
     "[(3,3,[]);(0,1,[(E(0),E(10));(E(15),E(20))]);(1,2,[(E(5),Inf)]);(0,2,[(E(12),E(18))])]";
 
-fn minutes(count: i64) -> Minutes {
-    Minutes { count }
-}
-
 fn count(span: Option<Minutes>) -> i64 {
     span.map_or(-99, |a| a.count)
 }
@@ -94,16 +90,16 @@ fn check_written(
 #[test]
 fn writes(rt: HostRuntime) -> Result<(), Fail> {
     check_written(&rt, rt.alloc(), &[], "[(0,0,[])]")?;
-    check_written(&rt, rt.alloc(), &[minutes(0)], "[(1,1,[])]")?;
+    check_written(&rt, rt.alloc(), &[Minutes::from(0)], "[(1,1,[])]")?;
     check_written(
         &rt,
         rt.alloc(),
         &[
-            minutes(0),
-            minutes(5),
-            minutes(0),
-            minutes(-70),
-            minutes(549755813888),
+            Minutes::from(0),
+            Minutes::from(5),
+            Minutes::from(0),
+            Minutes::from(-70),
+            Minutes::from(549755813888),
         ],
         "[(5,5,[]);(0,1,[(E(5),E(5))]);(0,2,[(E(0),E(0))]);(0,3,[(E(-70),E(-70))]);(0,4,[(E(549755813888),E(549755813888))])]",
     )
@@ -113,19 +109,19 @@ fn writes(rt: HostRuntime) -> Result<(), Fail> {
 #[test]
 fn writes_no_long_date(rt: HostRuntime) -> Result<(), Fail> {
     for date in [1000000000000, -1000000000000, i64::MIN] {
-        let text = write_dates(rt.alloc(), &[minutes(0), minutes(date)])?;
+        let text = write_dates(rt.alloc(), &[Minutes::from(0), Minutes::from(date)])?;
         assert!(rt; text.is_none());
     }
     check_written(
         &rt,
         rt.alloc(),
-        &[minutes(i64::MIN), minutes(5)],
+        &[Minutes::from(i64::MIN), Minutes::from(5)],
         "[(2,2,[]);(0,1,[(E(5),E(5))])]",
     )?;
     check_written(
         &rt,
         rt.alloc(),
-        &[minutes(0), minutes(-999999999999)],
+        &[Minutes::from(0), Minutes::from(-999999999999)],
         "[(2,2,[]);(0,1,[(E(-999999999999),E(-999999999999))])]",
     )
 }

@@ -8,10 +8,6 @@ use std::test::*;
 // Of one condition: its two points, the number of its windows, and the two ends of one of them.
 type Told = (usize, usize, usize, Option<i64>, Option<i64>);
 
-fn count(span: Option<Minutes>) -> Option<i64> {
-    span.map(|a| a.count)
-}
-
 // The numbers of points and conditions that the text tells of, and what it tells of condition k and its window w.
 fn told(text: &str, k: usize, w: usize) -> Option<((usize, usize), Told)> {
     let source = ListText::read(text.as_bytes()).ok()?;
@@ -21,8 +17,8 @@ fn told(text: &str, k: usize, w: usize) -> Option<((usize, usize), Told)> {
             source.from(k),
             source.to(k),
             source.windows(k),
-            count(source.low(k, w)),
-            count(source.high(k, w)),
+            source.low(k, w).map(|a| a.count),
+            source.high(k, w).map(|a| a.count),
         ),
     ))
 }

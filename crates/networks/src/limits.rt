@@ -2,6 +2,9 @@
 
 pub const MOST_POINTS: usize = 48;
 
+// Of a matrix.
+pub const MOST_ENTRIES: usize = MOST_POINTS * MOST_POINTS;
+
 pub const MOST_CONDITIONS: usize = 64;
 
 // Of conditions with two or more windows.

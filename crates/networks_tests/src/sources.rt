@@ -4,10 +4,6 @@ use networks::{Row, Rows, Source, Window};
 use spans::{MinuteRank, Minutes};
 use std::process::Abort;
 
-fn count(span: Option<Minutes>) -> Option<i64> {
-    span.map(|a| a.count)
-}
-
 fn parts(span: Option<MinuteRank>) -> Option<(i64, i64)> {
     span.map(|a| (a.first.count, a.second.count))
 }
@@ -20,8 +16,8 @@ fn told<T: Source<Span = Minutes>>(source: &T, k: usize, w: usize) -> Told {
         source.from(k),
         source.to(k),
         source.windows(k),
-        count(source.low(k, w)),
-        count(source.high(k, w)),
+        source.low(k, w).map(|a| a.count),
+        source.high(k, w).map(|a| a.count),
     )
 }
 
@@ -172,7 +168,10 @@ fn partly_selected(rt: HostRuntime) {
 fn piles(rt: HostRuntime) {
     let rows = four();
     let kept = hull_of_selected(&Rows::from_rows(3, &rows), 1, 1);
-    assert_eq!(rt; (count(kept.low), count(kept.high)), (Some(0), Some(5)));
+    assert_eq!(rt;
+        (kept.low.map(|a| a.count), kept.high.map(|a| a.count)),
+        (Some(0), Some(5))
+    );
     let ranked = [Row::new(
         0,
         1,

@@ -8,15 +8,15 @@ use crate::words::{Refused, in_minutes};
 use checks::check;
 use layers::{Hull, Selected};
 use list_text::ListText;
-use networks::{Fault, Lent, Row, Rows, Source, Window};
+use networks::{Fault, Lent, MOST_ENTRIES, MOST_POINTS, Row, Rows, Source, Window};
 use spans::Minutes;
 use std::io;
 
 // Memory that suffices for 48 points.
 const AMPLE: Lent = Lent {
-    matrix: 2304,
-    cycle: 48,
-    dates: Some(48),
+    matrix: MOST_ENTRIES,
+    cycle: MOST_POINTS,
+    dates: Some(MOST_POINTS),
 };
 
 // The hull of condition k of any source, asked of a layer over it.
