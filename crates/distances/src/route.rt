@@ -14,18 +14,12 @@ pub(crate) struct Way {
 }
 
 impl Way {
-    // The first half of a way over m.
-    fn up_to(self, m: usize) -> Way
-        ensures { result ≡ record { from = self.from; to = m } }
+    // The halves of a way over m.
+    fn halves(self, m: usize) -> (Way, Way)
+        ensures first { result.0 ≡ record { from = self.from; to = m } }
+        ensures second { result.1 ≡ record { from = m; to = self.to } }
     {
-        Way { to: m, ..self }
-    }
-
-    // The second half.
-    fn on_from(self, m: usize) -> Way
-        ensures { result ≡ record { from = m; to = self.to } }
-    {
-        Way { from: m, ..self }
+        (Way { to: m, ..self }, Way { from: m, ..self })
     }
 }
 
@@ -60,10 +54,10 @@ impl Ways<'_> {
                 1
             }
             Link::Over(point) => {
-                let m = point as usize;
-                let first = self.unfold(way.up_to(m), out);
-                let second = self.unfold(way.on_from(m), &mut out[first..]);
-                first + second
+                let (first, second) = way.halves(point as usize);
+                let before = self.unfold(first, out);
+                let behind = self.unfold(second, &mut out[before..]);
+                before + behind
             }
         }
     }

@@ -20,31 +20,31 @@ returns-in-Direct t c =
       unfolded = unfolded_edge n links c.args.way.from c.args.way.to _ c.requires c.args.out.now c.in-Direct.code here refl;
     }
 
-pub unfold-first-requires : goal.unfold-first-requires
-unfold-first-requires t c =
+pub unfold-before-requires : goal.unfold-before-requires
+unfold-before-requires t c =
     let n = c.args.self.now.n in
     let i = c.args.way.from in
     let j = c.args.way.to in
     let links = linked n c.args.self.now.links.now in
     let over = sym c.in-Over.ensures in
-    rw c.up_to.ensures (
+    rw c.halves.ensures.first (
       omega (arith, first_falls n links i j _ c.requires c.in-Over.point over),
       first_half n links i j _ c.requires c.in-Over.point over,
     )
 
-pub unfold-second-requires : goal.unfold-second-requires
-unfold-second-requires t c =
+pub unfold-behind-requires : goal.unfold-behind-requires
+unfold-behind-requires t c =
     let n = c.args.self.now.n in
     let i = c.args.way.from in
     let j = c.args.way.to in
     let links = linked n c.args.self.now.links.now in
-    let half = c.unfold-first.new.out in
+    let half = c.unfold-before.new.out in
     let over = sym c.in-Over.ensures in
-    let first : Unfolded links i c.in-Over.point c.args.out.now half c.unfold-first.result = rw c.up_to.ensures at c.unfold-first.ensures.unfolded in
-    rw c.on_from.ensures (
+    let first : Unfolded links i c.in-Over.point c.args.out.now half c.unfold-before.result = rw c.halves.ensures.first at c.unfold-before.ensures.unfolded in
+    rw c.halves.ensures.second (
       omega (arith, second_falls n links i j _ c.requires c.in-Over.point over),
-      second_half n links i j (length c.args.out.now) c.requires c.in-Over.point over c.args.out.now half c.unfold-first.result
-          first _ (behind_length half c.unfold-first.result _ (omega arith)),
+      second_half n links i j (length c.args.out.now) c.requires c.in-Over.point over c.args.out.now half c.unfold-before.result
+          first _ (behind_length half c.unfold-before.result _ (omega arith)),
     )
 
 pub returns-in-Over : goal.returns-in-Over
@@ -54,12 +54,12 @@ returns-in-Over t c =
     let j = c.args.way.to in
     let m = c.in-Over.point in
     let links = linked n c.args.self.now.links.now in
-    let half = c.unfold-first.new.out in
-    let behind = take (length half - c.unfold-first.result) (drop c.unfold-first.result half) in
+    let half = c.unfold-before.new.out in
+    let behind = take (length half - c.unfold-before.result) (drop c.unfold-before.result half) in
     let over = sym c.in-Over.ensures in
-    let first : Unfolded links i m c.args.out.now half c.unfold-first.result = rw c.up_to.ensures at c.unfold-first.ensures.unfolded in
-    let second : Unfolded links m j behind c.unfold-second.new.out c.unfold-second.result = rw c.on_from.ensures at c.unfold-second.ensures.unfolded in
+    let first : Unfolded links i m c.args.out.now half c.unfold-before.result = rw c.halves.ensures.first at c.unfold-before.ensures.unfolded in
+    let second : Unfolded links m j behind c.unfold-behind.new.out c.unfold-behind.result = rw c.halves.ensures.second at c.unfold-behind.ensures.unfolded in
     record {
-      within = whole_within n links i j (length c.args.out.now) c.requires m over c.args.out.now half c.unfold-first.result first behind c.unfold-second.new.out c.unfold-second.result second;
-      unfolded = unfolded_halves n links i j (length c.args.out.now) c.requires m over c.args.out.now half c.unfold-first.result first behind c.unfold-second.new.out c.unfold-second.result second refl;
+      within = whole_within n links i j (length c.args.out.now) c.requires m over c.args.out.now half c.unfold-before.result first behind c.unfold-behind.new.out c.unfold-behind.result second;
+      unfolded = unfolded_halves n links i j (length c.args.out.now) c.requires m over c.args.out.now half c.unfold-before.result first behind c.unfold-behind.new.out c.unfold-behind.result second refl;
     }
