@@ -2,7 +2,6 @@
 ghost use Rattle.std.specs.Prelude.{◌≡◌, ℕ, ◌*◌, ◌<◌, ◌≤◌, length, take, drop};
 ghost use Rattle.networks.specs.Limits.{most_points, largest_date};
 ghost use Rattle.networks.specs.Hull.{hulls};
-ghost use Rattle.networks.specs.Legal.{Legal};
 ghost use Rattle.networks.specs.Plan.{date, Plan};
 ghost use Rattle.distances.specs.Limits.{largest_total};
 ghost use Rattle.distances.specs.Distance.{entry_of};
@@ -12,6 +11,7 @@ ghost use Rattle.distances.specs.Matrix.{table};
 ghost use Rattle.distances.specs.Steps.{earliest, latest, GreatestSoFar, LeastSoFar};
 ghost use Rattle.distances.specs.DateRule.{Dated, ByDateRule};
 
+use crate::legal::LegalSource;
 use crate::matrix::entry;
 use networks::Source;
 use spans::Span;
@@ -80,14 +80,17 @@ impl<S: Span> Dating<'_, S> {
 }
 
 // Writes the dates of all points by the date rule on the matrix of the source's least totals. They are a plan of its hulls.
-pub fn date_points<T: Source>(source: &T, matrix: &[Option<T::Span>], dates: &mut [T::Span])
-    requires legal { Legal T.Span.Span.kind (T.Source.means source.now) }
-    requires room { ((T.Source.means source.now).points * (T.Source.means source.now).points ≤ length matrix.now) × ((T.Source.means source.now).points ≤ length dates.old) }
-    requires closed { Closes T.Span.Span.kind (T.Source.means source.now) matrix.now }
-    ensures dated { ByDateRule T.Span.Span.kind (entry_of (T.Source.means source.now).points matrix.now)
-        (take (T.Source.means source.now).points dates.new) (T.Source.means source.now).points }
-    ensures plan { Plan T.Span.Span.kind (hulls (T.Source.means source.now)) (take (T.Source.means source.now).points dates.new) }
-    ensures rest { drop (T.Source.means source.now).points dates.new ≡ drop (T.Source.means source.now).points dates.old }
+pub fn date_points<T: Source>(
+    source: &LegalSource<T>,
+    matrix: &[Option<T::Span>],
+    dates: &mut [T::Span],
+)
+    requires room { (source.now.points * source.now.points ≤ length matrix.now) × (source.now.points ≤ length dates.old) }
+    requires closed { Closes T.Span.Span.kind source.now matrix.now }
+    ensures dated { ByDateRule T.Span.Span.kind (entry_of source.now.points matrix.now)
+        (take source.now.points dates.new) source.now.points }
+    ensures plan { Plan T.Span.Span.kind (hulls source.now) (take source.now.points dates.new) }
+    ensures rest { drop source.now.points dates.new ≡ drop source.now.points dates.old }
 {
     let n = source.points();
     for p in 0..n {

@@ -1,12 +1,12 @@
-// The edges of a source's hulls in a matrix, with their links. Assumes that the source's network is legal and that the memory has room, as each requires.
+// The edges of a source's hulls in a matrix, with their links. Assumes that the memory has room, as each requires.
 ghost use Rattle.std.specs.Prelude.{◌≡◌, ℕ, suc, ◌+◌, ◌*◌, ◌<◌, ◌≤◌, length, if◌then◌else◌, Some, None, nat_eq, nat_lt, true};
-ghost use Rattle.networks.specs.Legal.{Legal};
 ghost use Rattle.networks.specs.Limits.{most_conditions};
 ghost use Rattle.distances.specs.Begun.{begun, Filled};
 ghost use Rattle.distances.specs.Edges.{Coded, condition_of, leaves, reaches, edge_weight, edge_code, edge_at, lesser, least_edge};
 ghost use Rattle.distances.specs.Table.{is_direct};
 ghost use Rattle.distances.specs.Matrix.{table, linked, Rest};
 
+use crate::legal::LegalSource;
 use crate::link::Link;
 use crate::matrix::{improve, place};
 use layers::Hull;
@@ -66,42 +66,41 @@ impl Edge {
 // The edge, where it is the least so far.
 // Kept: n goes beside the source whose points it counts, here and below; without it each clause would name the source's points instead.
 fn put_edge<T: Source>(
-    source: &T,
+    source: &LegalSource<T>,
     edge: Edge,
     n: usize,
     matrix: &mut [Option<T::Span>],
     links: &mut [Link],
 )
-    requires points { (n ≡ (T.Source.means source.now).points) × (condition_of edge < length (T.Source.means source.now).conditions) }
+    requires points { (n ≡ source.now.points) × (condition_of edge < length source.now.conditions) }
     requires room { (n * n ≤ length matrix.old) × (n * n ≤ length links.old) }
-    requires legal { Legal T.Span.Span.kind (T.Source.means source.now) }
     ensures filled { (edges : ℕ → ℕ → Coded T.Span) → Filled n edges matrix.old links.old
-        → Filled n (λ i j. lesser T.Span.Span.kind (edges i j) (edge_at T.Span.Span.kind (T.Source.means source.now) edge i j)) matrix.new links.new }
+        → Filled n (λ i j. lesser T.Span.Span.kind (edges i j) (edge_at T.Span.Span.kind source.now edge i j)) matrix.new links.new }
     ensures rest { Rest n matrix.old matrix.new }
 {
-    let at = place(n, edge.from(source), edge.to(source));
+    let asked = source.get();
+    let at = place(n, edge.from(asked), edge.to(asked));
     improve(
         matrix,
         links,
         at,
-        edge.weight(source),
+        edge.weight(asked),
         Link::Direct(edge.code()),
     );
 }
 
 // Both edges of condition k, each where it is the least so far.
 fn put_condition<T: Source>(
-    source: &T,
+    source: &LegalSource<T>,
     n: usize,
     k: usize,
     matrix: &mut [Option<T::Span>],
     links: &mut [Link],
 )
-    requires points { (n ≡ (T.Source.means source.now).points) × (k < length (T.Source.means source.now).conditions) }
+    requires points { (n ≡ source.now.points) × (k < length source.now.conditions) }
     requires room { (n * n ≤ length matrix.old) × (n * n ≤ length links.old) }
-    requires legal { Legal T.Span.Span.kind (T.Source.means source.now) }
-    requires filled { Filled n (least_edge T.Span.Span.kind (T.Source.means source.now) k) matrix.old links.old }
-    ensures filled { Filled n (least_edge T.Span.Span.kind (T.Source.means source.now) (suc k)) matrix.new links.new }
+    requires filled { Filled n (least_edge T.Span.Span.kind source.now k) matrix.old links.old }
+    ensures filled { Filled n (least_edge T.Span.Span.kind source.now (suc k)) matrix.new links.new }
     ensures rest { Rest n matrix.old matrix.new }
 {
     put_edge(source, Edge::Forward(k), n, matrix, links);
@@ -122,16 +121,15 @@ fn put_zeros<S: Span>(matrix: &mut [Option<S>], n: usize)
 
 // The least edges of all conditions, and zero from each point to itself; what stood in the memory does not matter.
 pub(crate) fn fill_edges<T: Source>(
-    source: &T,
+    source: &LegalSource<T>,
     n: usize,
     matrix: &mut [Option<T::Span>],
     links: &mut [Link],
 )
-    requires points { n ≡ (T.Source.means source.now).points }
+    requires points { n ≡ source.now.points }
     requires room { (n * n ≤ length matrix.old) × (n * n ≤ length links.old) }
-    requires legal { Legal T.Span.Span.kind (T.Source.means source.now) }
-    ensures matrix { (i j : ℕ) → table n matrix.new i j ≡ begun T.Span.Span.kind (T.Source.means source.now) i j }
-    ensures links { (i j c : ℕ) (a : T.Span) → least_edge T.Span.Span.kind (T.Source.means source.now) (length (T.Source.means source.now).conditions) i j ≡ Some (a, c)
+    ensures matrix { (i j : ℕ) → table n matrix.new i j ≡ begun T.Span.Span.kind source.now i j }
+    ensures links { (i j c : ℕ) (a : T.Span) → least_edge T.Span.Span.kind source.now (length source.now.conditions) i j ≡ Some (a, c)
         → linked n links.new i j ≡ Link.Direct c }
     ensures straight { (i j : ℕ) → is_direct (linked n links.new i j) ≡ true }
     ensures rest { Rest n matrix.old matrix.new }

@@ -12,6 +12,7 @@ mod cycle;
 mod dates;
 mod edges;
 pub mod inner;
+mod legal;
 mod link;
 mod matrix;
 mod relax;

@@ -1,35 +1,32 @@
 // Tightening: the checks, closing, and the cycle in the caller's memory where the hulls admit no plan.
 ghost use Rattle.std.specs.Prelude.{◌≡◌, ◌*◌, ◌≤◌, length, None};
-ghost use Rattle.networks.specs.Legal.{Legal};
 ghost use Rattle.distances.specs.Tightening.{Ends, Tightens};
 ghost use Rattle.distances.specs.Decided.{NetworksDecided};
 
 use crate::closing::close;
 use crate::cycle::give_up;
+use crate::legal::LegalSource;
 use crate::link::Link;
 use crate::route::Ways;
 use checks::check;
 use networks::{Fault, Lent, MOST_ENTRIES, Source};
 use spans::Span;
 
-// For a source whose network is legal, and memory that suffices, as the checks show.
+// For memory that suffices, as the checks show.
 fn tighten_checked<T: Source>(
-    source: &T,
+    source: &LegalSource<T>,
     matrix: &mut [Option<T::Span>],
     cycle: &mut [u16],
 ) -> Result<(), Fault>
-    requires legal { Legal T.Span.Span.kind (T.Source.means source.now) }
-    requires room { ((T.Source.means source.now).points * (T.Source.means source.now).points ≤ length matrix.old) × ((T.Source.means source.now).points ≤ length cycle.old) }
-    ensures { Ends T.Span.Span.kind (T.Source.means source.now) matrix.old cycle.old result matrix.new cycle.new }
+    requires room { (source.now.points * source.now.points ≤ length matrix.old) × (source.now.points ≤ length cycle.old) }
+    ensures { Ends T.Span.Span.kind source.now matrix.old cycle.old result matrix.new cycle.new }
 {
+    let n = source.points();
     let mut links = [Link::Direct(0); MOST_ENTRIES];
     match close(source, matrix, &mut links) {
         Ok(()) => Ok(()),
         Err(edge) => {
-            let ways = Ways {
-                n: source.points(),
-                links: &links,
-            };
+            let ways = Ways { n, links: &links };
             let edges = give_up(&ways, edge, matrix, cycle);
             Err(Fault::Cycle(edges))
         }
@@ -48,5 +45,5 @@ pub(crate) fn tighten_lent<T: Source>(
     ensures networks { NetworksDecided T.Span.Span.kind }
 {
     check(source, lent)?;
-    tighten_checked(source, matrix, cycle)
+    tighten_checked(&LegalSource::new(source), matrix, cycle)
 }

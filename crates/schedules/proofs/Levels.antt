@@ -35,9 +35,9 @@ selected_front (c ∷ cs) [] h = absurd (omega arith)
 selected_front {S} (c ∷ cs) (u ∷ us) h = ap (λ (rest : List (Condition S)). only c u ∷ rest) (selected_front cs us (omega arith))
 
 -- what is counted at a place of the list is the count at its number
-pub turned : {S : Type 0} (N : Network S) (places : List (Option ℕ)) → ChoicePlaces N places → (l r : ℕ)
-    → MatchOption (get_or places l None) (r ≡ 1) (λ k. r ≡ length (condition_at N k).windows) → Turns N (place_of N places l) r
-turned N places right l r counted = by_place (get_or places l None) refl counted
+pub turned : {S : Type 0} {M N : Network S} → M ≡ N → (places : List (Option ℕ)) → ChoicePlaces N places → (l r : ℕ)
+    → MatchOption (get_or places l None) (r ≡ 1) (λ k. r ≡ length (condition_at M k).windows) → Turns N (place_of N places l) r
+turned {S} {M} {N} same places right l r counted = by_place (get_or places l None) refl (rw same at counted)
   where
     by_place : (o : Option ℕ) → get_or places l None ≡ o → MatchOption o (r ≡ 1) (λ k. r ≡ length (condition_at N k).windows)
         → Turns N (unwrap_or o (length N.conditions)) r

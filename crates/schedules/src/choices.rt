@@ -1,9 +1,9 @@
-// The choice conditions of a source: where they are, and how many windows each has. Assumes a legal network, as each requires.
+// The choice conditions of a source: where they are, and how many windows each has.
 ghost use Rattle.std.specs.Prelude.{◌≡◌, ◌+◌, ◌<◌, length, unwrap_or, IfSome, MatchOption};
 ghost use Rattle.networks.specs.Network.{condition_at};
-ghost use Rattle.networks.specs.Legal.{Legal};
 ghost use Rattle.schedules.specs.Choosing.{NextChoice, ChoicePlaces};
 
+use distances::inner::LegalSource;
 use networks::Source;
 use spans::Span;
 
@@ -16,22 +16,20 @@ fn next_choice<T: Source>(source: &T, from: usize) -> Option<usize>
 }
 
 // The next choice condition after the one at `place`, if that is there.
-fn choice_after<T: Source>(source: &T, place: Option<usize>) -> Option<usize>
-    requires legal { Legal T.Span.Span.kind (T.Source.means source.now) }
-    requires there { IfSome place (λ k. k < length (T.Source.means source.now).conditions) }
-    ensures there { IfSome result (λ k. k < length (T.Source.means source.now).conditions) }
-    ensures next { NextChoice (T.Source.means source.now) (unwrap_or place (length (T.Source.means source.now).conditions) + 1)
-        (unwrap_or result (length (T.Source.means source.now).conditions)) }
+fn choice_after<T: Source>(source: &LegalSource<T>, place: Option<usize>) -> Option<usize>
+    requires there { IfSome place (λ k. k < length source.now.conditions) }
+    ensures there { IfSome result (λ k. k < length source.now.conditions) }
+    ensures next { NextChoice source.now (unwrap_or place (length source.now.conditions) + 1)
+        (unwrap_or result (length source.now.conditions)) }
 {
-    next_choice(source, place? + 1)
+    next_choice(source.get(), place? + 1)
 }
 
 // The places of the choice conditions, of which there are at most six.
-pub(crate) fn choice_places<T: Source>(source: &T) -> [Option<usize>; 6]
-    requires { Legal T.Span.Span.kind (T.Source.means source.now) }
-    ensures { ChoicePlaces (T.Source.means source.now) result }
+pub(crate) fn choice_places<T: Source>(source: &LegalSource<T>) -> [Option<usize>; 6]
+    ensures { ChoicePlaces source.now result }
 {
-    let a = next_choice(source, 0);
+    let a = next_choice(source.get(), 0);
     let b = choice_after(source, a);
     let c = choice_after(source, b);
     let d = choice_after(source, c);

@@ -1,13 +1,11 @@
-// One step down: a window is chosen at a place, and the matrix of what is chosen so far is closed. Assumes a legal network and memory
-// that suffices, as each requires.
+// One step down: a window is chosen at a place, and the matrix of what is chosen so far is closed. Assumes memory that suffices, as it requires.
 ghost use Rattle.std.specs.Prelude.{◌≡◌, ℕ, suc, ◌*◌, ◌<◌, ◌≤◌, length, MatchOption};
-ghost use Rattle.networks.specs.Legal.{Legal};
 ghost use Rattle.networks.specs.Selection.{chosen};
 ghost use Rattle.distances.specs.Closing.{Closes};
 ghost use Rattle.distances.specs.Matrix.{Rest};
 ghost use Rattle.schedules.specs.Choosing.{place_of, ChoicePlaces, Turns, ChosenUpto, RuledOut, GoesOn};
 
-use distances::inner::{Link, close};
+use distances::inner::{LegalSource, Link, close};
 use layers::Chosen;
 use networks::Source;
 use spans::Span;
@@ -15,7 +13,7 @@ use spans::Span;
 // Window w at place l of the choice conditions: the numbers chosen with it, and the matrix closed for them; or none, where that admits no
 // plan. Past the last choice condition there is one window, and what is chosen stays as it was.
 pub(crate) fn descend<T: Source>(
-    source: &T,
+    source: &LegalSource<T>,
     places: [Option<usize>; 6],
     l: usize,
     w: usize,
@@ -23,22 +21,23 @@ pub(crate) fn descend<T: Source>(
     matrix: &mut [Option<T::Span>],
     links: &mut [Link],
 ) -> Option<[u8; 64]>
-    requires legal { Legal T.Span.Span.kind (T.Source.means source.now) }
-    requires room { ((T.Source.means source.now).points * (T.Source.means source.now).points ≤ length matrix.old) × ((T.Source.means source.now).points * (T.Source.means source.now).points ≤ length links.old) }
-    requires places { (ChoicePlaces (T.Source.means source.now) places) × (l < 6) }
-    requires upto { ChosenUpto (T.Source.means source.now) windows (place_of (T.Source.means source.now) places l) }
-    requires turn { (r : ℕ) → Turns (T.Source.means source.now) (place_of (T.Source.means source.now) places l) r → w < r }
-    requires closed { w ≡ 0 → Closes T.Span.Span.kind (chosen (T.Source.means source.now) windows (place_of (T.Source.means source.now) places l)) matrix.old }
-    ensures goes { MatchOption result (RuledOut T.Span.Span.kind (T.Source.means source.now) windows (place_of (T.Source.means source.now) places l) w)
-        (λ us. GoesOn T.Span.Span.kind (T.Source.means source.now) windows (place_of (T.Source.means source.now) places l) w us (place_of (T.Source.means source.now) places (suc l)) matrix.new) }
-    ensures rest { Rest (T.Source.means source.now).points matrix.old matrix.new }
+    requires room { (source.now.points * source.now.points ≤ length matrix.old) × (source.now.points * source.now.points ≤ length links.old) }
+    requires places { (ChoicePlaces source.now places) × (l < 6) }
+    requires upto { ChosenUpto source.now windows (place_of source.now places l) }
+    requires turn { (r : ℕ) → Turns source.now (place_of source.now places l) r → w < r }
+    requires closed { w ≡ 0 → Closes T.Span.Span.kind (chosen source.now windows (place_of source.now places l)) matrix.old }
+    ensures goes { MatchOption result (RuledOut T.Span.Span.kind source.now windows (place_of source.now places l) w)
+        (λ us. GoesOn T.Span.Span.kind source.now windows (place_of source.now places l) w us (place_of source.now places (suc l)) matrix.new) }
+    ensures rest { Rest source.now.points matrix.old matrix.new }
 {
     let Some(place) = places[l] else {
         return Some(windows);
     };
+    let asked = source.get();
     let mut chosen = windows;
     chosen[place] = w as u8;
-    match close(&Chosen::over(source, chosen, place + 1), matrix, links) {
+    let part = Chosen::over(asked, chosen, place + 1);
+    match close(&LegalSource::new(&part), matrix, links) {
         Ok(()) => Some(chosen),
         Err(_) => None,
     }

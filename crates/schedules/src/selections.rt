@@ -1,8 +1,7 @@
-// The first selection that has a plan, by nested loops over the windows of the choice conditions. Assumes a legal network, memory that
-// suffices and a matrix that is closed for the hulls, as each requires.
+// The first selection that has a plan, by nested loops over the windows of the choice conditions. Assumes memory that suffices and a
+// matrix that is closed for the hulls, as it requires.
 ghost use Rattle.std.specs.Prelude.{◌≡◌, ℕ, ◌*◌, ◌≤◌, length, MatchOption, slice_index};
 ghost use Rattle.networks.specs.Hull.{hulls};
-ghost use Rattle.networks.specs.Legal.{Legal};
 ghost use Rattle.networks.specs.Plan.{HasPlan};
 ghost use Rattle.distances.specs.Closing.{Closes};
 ghost use Rattle.distances.specs.Matrix.{Rest};
@@ -10,7 +9,7 @@ ghost use Rattle.schedules.specs.Choosing.{ChoicePlaces, FoundFirst};
 
 use crate::choices::turns;
 use crate::descent::descend;
-use distances::inner::Link;
+use distances::inner::{LegalSource, Link};
 use networks::Source;
 use spans::Span;
 
@@ -26,36 +25,36 @@ fn first_windows() -> [u8; 64]
 // rest, and passes over all that goes on from it where that admits no plan. Levels past the last choice condition have one turn.
 // Kept as six loops left by a label, with windows in fixed memory: a rule of the project, no recursion and no heap.
 pub(crate) fn first_selection<T: Source>(
-    source: &T,
+    source: &LegalSource<T>,
     places: [Option<usize>; 6],
     matrix: &mut [Option<T::Span>],
     links: &mut [Link],
 ) -> Option<[u8; 64]>
-    requires legal { Legal T.Span.Span.kind (T.Source.means source.now) }
-    requires room { ((T.Source.means source.now).points * (T.Source.means source.now).points ≤ length matrix.old) × ((T.Source.means source.now).points * (T.Source.means source.now).points ≤ length links.old) }
-    requires places { ChoicePlaces (T.Source.means source.now) places }
-    requires closed { Closes T.Span.Span.kind (hulls (T.Source.means source.now)) matrix.old }
-    ensures found { MatchOption result (HasPlan T.Span.Span.kind (T.Source.means source.now) → ⊥)
-        (λ us. FoundFirst T.Span.Span.kind (T.Source.means source.now) us matrix.new) }
-    ensures rest { Rest (T.Source.means source.now).points matrix.old matrix.new }
+    requires room { (source.now.points * source.now.points ≤ length matrix.old) × (source.now.points * source.now.points ≤ length links.old) }
+    requires places { ChoicePlaces source.now places }
+    requires closed { Closes T.Span.Span.kind (hulls source.now) matrix.old }
+    ensures found { MatchOption result (HasPlan T.Span.Span.kind source.now → ⊥)
+        (λ us. FoundFirst T.Span.Span.kind source.now us matrix.new) }
+    ensures rest { Rest source.now.points matrix.old matrix.new }
 {
+    let asked = source.get();
     let mut found = None;
     let start = first_windows();
-    'selections: for a in 0..turns(source, places[0]) {
+    'selections: for a in 0..turns(asked, places[0]) {
         if let Some(one) = descend(source, places, 0, a, start, matrix, links) {
-            for b in 0..turns(source, places[1]) {
+            for b in 0..turns(asked, places[1]) {
                 if let Some(two) = descend(source, places, 1, b, one, matrix, links) {
-                    for c in 0..turns(source, places[2]) {
+                    for c in 0..turns(asked, places[2]) {
                         if let Some(three) = descend(source, places, 2, c, two, matrix, links) {
-                            for d in 0..turns(source, places[3]) {
+                            for d in 0..turns(asked, places[3]) {
                                 if let Some(four) = descend(
                                     source, places, 3, d, three, matrix, links,
                                 ) {
-                                    for e in 0..turns(source, places[4]) {
+                                    for e in 0..turns(asked, places[4]) {
                                         if let Some(five) = descend(
                                             source, places, 4, e, four, matrix, links,
                                         ) {
-                                            for f in 0..turns(source, places[5]) {
+                                            for f in 0..turns(asked, places[5]) {
                                                 if let Some(six) = descend(
                                                     source, places, 5, f, five, matrix, links,
                                                 ) {

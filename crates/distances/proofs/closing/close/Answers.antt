@@ -7,10 +7,10 @@ use Rattle.distances.proofs.closing.close.Goals as goal
 
 pub loop-k-init : goal.loop-k-init
 loop-k-init g c =
-    let N = g.T.Source.means c.args.source.now in
+    let N = c.args.source.now in
     let n = c.points-n.result in
     let filled = c.fill_edges.ensures in (
-      standing_begins g.met.T.Span.Span.lawful N c.requires.legal (table n c.fill_edges.new.matrix) (linked n c.fill_edges.new.links)
+      standing_begins g.met.T.Span.Span.lawful N c.points-n.ensures.legal (table n c.fill_edges.new.matrix) (linked n c.fill_edges.new.links)
           filled.matrix filled.links filled.straight,
       refl,
     )
@@ -18,35 +18,35 @@ loop-k-init g c =
 pub returns-in-Some : goal.returns-in-Some
 returns-in-Some g c =
     let K = g.T.Span.Span.kind in
-    let N = g.T.Source.means c.args.source.now in
+    let N = c.args.source.now in
     let n = c.points-n.result in
-    let is : n ≡ N.points = c.points-n.ensures in
+    let is : n ≡ N.points = c.points-n.ensures.points in
     let found = c.in-Some.ensures in
     let edge = c.in-Some.edge in
     let below : c.loop-k.k < N.points = omega arith in
     record {
       ends = subst (λ (m : ℕ). CannotClose K N (linked m c.loop-k.links) edge.first edge.last edge.code) is
           (subst (λ (m : ℕ). CannotClose K N (linked n c.loop-k.links) m edge.last edge.code) (sym found.first_is)
-          (standing_refuses g.met.T.Span.Span.lawful N c.requires.legal (table n c.loop-k.matrix) (linked n c.loop-k.links)
+          (standing_refuses g.met.T.Span.Span.lawful N c.points-n.ensures.legal (table n c.loop-k.matrix) (linked n c.loop-k.links)
           c.loop-k.k c.loop-k.invariant.0 below edge.last found.last_below found.below_zero edge.code found.back));
       rest = subst (λ (m : ℕ). Rest m c.args.matrix.now c.loop-k.matrix) is (c.loop-k.invariant.1 ∙ c.fill_edges.ensures.rest);
     }
 
 pub loop-k-preserved : goal.loop-k-preserved
 loop-k-preserved g c =
-    let N = g.T.Source.means c.args.source.now in
+    let N = c.args.source.now in
     let n = c.points-n.result in
     let relaxed = c.relax_stage.ensures in
     let below : c.loop-k.k < N.points = omega arith in (
-      standing_steps g.met.T.Span.Span.lawful N c.requires.legal (table n c.loop-k.matrix) (linked n c.loop-k.links)
+      standing_steps g.met.T.Span.Span.lawful N c.points-n.ensures.legal (table n c.loop-k.matrix) (linked n c.loop-k.links)
           c.loop-k.k c.loop-k.invariant.0 below _ _ c.in_default.ensures relaxed.matrix relaxed.links,
       relaxed.rest ∙ c.loop-k.invariant.1,
     )
 
 pub returns-clause-ends : goal.returns-clause-ends
 returns-clause-ends g c =
-    let N = g.T.Source.means c.args.source.now in
+    let N = c.args.source.now in
     let n = c.points-n.result in
-    let is : n ≡ N.points = c.points-n.ensures in
+    let is : n ≡ N.points = c.points-n.ensures.points in
     let all : c.loop-k.k ≡ N.points = omega arith in
-    standing_ends g.met.T.Span.Span.lawful N c.requires.legal n c.loop-k.k c.loop-k.matrix (linked n c.loop-k.links) is all c.loop-k.invariant.0
+    standing_ends g.met.T.Span.Span.lawful N c.points-n.ensures.legal n c.loop-k.k c.loop-k.matrix (linked n c.loop-k.links) is all c.loop-k.invariant.0

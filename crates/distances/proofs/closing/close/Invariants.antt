@@ -6,6 +6,6 @@ use Rattle.distances.proofs.closing.close.Given as goal
 
 abbrev pub invariant-loop-k : goal.invariant-loop-k
 invariant-loop-k g l =
-    Stands g.T.Span.Span.kind (g.T.Source.means l.source) largest_total
+    Stands g.T.Span.Span.kind l.source largest_total
     (table l.n l.matrix) (linked l.n l.links) l.k
     × Rest l.n l.initial.matrix l.matrix

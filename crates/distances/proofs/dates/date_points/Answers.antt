@@ -9,17 +9,17 @@ use Rattle.distances.proofs.dates.date_points.Goals as goal
 
 pub invariant_of-dating : goal.invariant_of-dating
 invariant_of-dating g c =
-    let N = g.T.Source.means c.args.source.now in
+    let N = c.args.source.now in
     let n = c.points-n.result in
-    let done = numbered_done g.met.T.Span.Span.lawful N c.requires.legal c.args.matrix.now c.requires.closed n c.points-n.ensures in
+    let done = numbered_done g.met.T.Span.Span.lawful N c.points-n.ensures.legal c.args.matrix.now c.requires.closed n c.points-n.ensures.points in
     record {
-      points = (omega (arith, c.points-n.ensures, c.requires.legal.few_points), c.loop-p-test.true);
-      room = (rw c.points-n.ensures c.requires.room.0, omega (arith, c.points-n.ensures, c.requires.room.1));
+      points = (omega (arith, c.points-n.ensures.points, c.points-n.ensures.legal.few_points), c.loop-p-test.true);
+      room = (rw c.points-n.ensures.points c.requires.room.0, omega (arith, c.points-n.ensures.points, c.requires.room.1));
       small = done.small;
       near = λ q l. omega (
         arith,
-        c.points-n.ensures,
-        c.requires.legal.few_points,
+        c.points-n.ensures.points,
+        c.points-n.ensures.legal.few_points,
         dates_small g.met.T.Span.Span.lawful (table n c.args.matrix.now) largest_total done.small c.loop-p.dates c.loop-p.p c.loop-p.invariant.dated q l,
       );
     }
@@ -30,20 +30,20 @@ loop-p-preserved g c =
     let p = c.loop-p.p in
     record {
       dated = written_more g.T.Span.Span.kind (table n c.args.matrix.now) c.loop-p.dates p c.date.result
-          (omega (arith, c.points-n.ensures, c.requires.room.1)) c.loop-p.invariant.dated c.date.ensures;
+          (omega (arith, c.points-n.ensures.points, c.requires.room.1)) c.loop-p.invariant.dated c.date.ensures;
       rest = drop-set-lt n c.loop-p.dates p c.date.result c.loop-p-test.true ∙ c.loop-p.invariant.rest;
     }
 
 pub returns : goal.returns
 returns g c =
-    let N = g.T.Source.means c.args.source.now in
+    let N = c.args.source.now in
     let n = c.points-n.result in
-    let both = numbered_dates g.met.T.Span.Span.lawful N c.requires.legal c.args.matrix.now c.requires.closed n c.points-n.ensures
+    let both = numbered_dates g.met.T.Span.Span.lawful N c.points-n.ensures.legal c.args.matrix.now c.requires.closed n c.points-n.ensures.points
     (take n c.loop-p.dates)
-    (rule_at_front g.T.Span.Span.kind (table n c.args.matrix.now) c.loop-p.dates n (omega (arith, c.points-n.ensures, c.requires.room.1))
+    (rule_at_front g.T.Span.Span.kind (table n c.args.matrix.now) c.loop-p.dates n (omega (arith, c.points-n.ensures.points, c.requires.room.1))
     (λ q l. c.loop-p.invariant.dated q (omega arith))) in
     record {
-      dated = rw c.points-n.ensures at both.0;
-      plan = rw c.points-n.ensures at both.1;
-      rest = rw c.points-n.ensures at c.loop-p.invariant.rest;
+      dated = rw c.points-n.ensures.points at both.0;
+      plan = rw c.points-n.ensures.points at both.1;
+      rest = rw c.points-n.ensures.points at c.loop-p.invariant.rest;
     }

@@ -10,14 +10,14 @@ pub loop-k-init : goal.loop-k-init
 loop-k-init g c =
     let blank = blank_all None c.args.n None c.args.matrix.now (omega arith) (c.fill.ensures.after (λ y h. search rules)) in
     let straight = blank_all (Direct 0) c.args.n (Direct 0) c.args.links.now (omega arith) (c.fill-2.ensures.after (λ y h. search rules)) in (
-      rw (blank, straight) (none_filled g.T.Span.Span.kind (g.T.Source.means c.args.source.now) c.args.n c.args.matrix.now c.args.links.now),
+      rw (blank, straight) (none_filled g.T.Span.Span.kind c.args.source.now c.args.n c.args.matrix.now c.args.links.now),
       refl,
     )
 
 pub loop-k-preserved : goal.loop-k-preserved
 loop-k-preserved g c =
     let K = g.T.Span.Span.kind in
-    let N = g.T.Source.means c.args.source.now in
+    let N = c.args.source.now in
     let e = c.put_condition.ensures in (
       subst (λ (k : ℕ). Filled c.args.n (least_edge K N k) c.put_condition.new.matrix c.put_condition.new.links)
           (sym (add-one c.loop-k.k)) e.filled,
@@ -27,7 +27,7 @@ loop-k-preserved g c =
 pub returns : goal.returns
 returns g c =
     let K = g.T.Span.Span.kind in
-    let N = g.T.Source.means c.args.source.now in
+    let N = c.args.source.now in
     let n = c.args.n in
     let all : c.loop-k.k ≡ length N.conditions = omega arith in
     let filled : Filled n (least_edge K N (length N.conditions)) c.loop-k.matrix c.loop-k.links = rw all at c.loop-k.invariant.0 in

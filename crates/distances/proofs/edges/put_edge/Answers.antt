@@ -1,4 +1,5 @@
-use Rattle.std.proofs.Common.{arith}
+use Rattle.std.proofs.Common.{◌<◌, arith}
+use Rattle.distances.specs.Edges.{leaves, reaches}
 use Rattle.distances.proofs.Filling.{Put, edge_there, same_edge, put_filled, put_rest}
 use Rattle.distances.proofs.edges.put_edge.Goals as goal
 
@@ -6,12 +7,15 @@ pub returns : goal.returns
 returns g c =
     let K = g.T.Span.Span.kind in
     let n = c.args.n in
-    let (left, reached) = edge_there (g.T.Source.means c.args.source.now) c.args.edge c.requires.legal (omega arith) in
+    let asked = c.get-asked.ensures in
+    let N = g.T.Source.means c.get-asked.result.now in
+    let there : (leaves N c.args.edge < n) × (reaches N c.args.edge < n) =
+    rw (asked.means, c.requires.points.0) (edge_there c.args.source.now c.args.edge asked.legal c.requires.points.1) in
     let t : Put K n c.from.result c.to.result c.code.result c.weight.result
     c.args.matrix.now c.improve.new.matrix c.args.links.now c.improve.new.links = record {
       at = c.place-at.result;
-      row_there = omega arith;
-      column_there = omega arith;
+      row_there = omega (arith, there.0, c.from.ensures);
+      column_there = omega (arith, there.1, c.to.ensures);
       room = omega arith;
       room_beside = omega arith;
       at_is = c.place-at.ensures.place;
@@ -19,6 +23,6 @@ returns g c =
       links_are = c.improve.ensures.links;
     } in
     record {
-      filled = λ edges f. same_edge K n edges c.from.ensures c.to.ensures c.code.ensures c.weight.ensures (put_filled K n t edges f);
+      filled = λ edges f. rw asked.means at (same_edge K n edges c.from.ensures c.to.ensures c.code.ensures c.weight.ensures (put_filled K n t edges f));
       rest = put_rest K n t;
     }

@@ -7,10 +7,10 @@ use Rattle.distances.proofs.tightening.tighten_checked.Goals as goal
 
 pub give_up-edges-requires : goal.give_up-edges-requires
 give_up-edges-requires g c =
-    let N = g.T.Source.means c.args.source.now in
-    let n = c.points.result in
-    let is : n ≡ N.points = c.points.ensures in
-    let few = entries_few n (omega (arith, c.requires.legal.few_points)) in
+    let N = c.args.source.now in
+    let n = c.points-n.result in
+    let is : n ≡ N.points = c.points-n.ensures.points in
+    let few = entries_few n (omega (arith, c.points-n.ensures.legal.few_points)) in
     let edge = c.in-Err.edge in
     let no = with_number g.T.Span.Span.kind N c.args.matrix.now c.args.cycle.now n c.close.new.links edge.first edge.last edge.code is c.in-Err.ensures.ends in
     record {
@@ -22,14 +22,14 @@ give_up-edges-requires g c =
 
 pub returns-in-Err : goal.returns-in-Err
 returns-in-Err g c =
-    let N = g.T.Source.means c.args.source.now in
-    let n = c.points.result in
+    let N = c.args.source.now in
+    let n = c.points-n.result in
     let K = g.T.Span.Span.kind in
     let edge = c.in-Err.edge in (
       c.give_up-edges.result,
       refl,
       contradicted K N c.args.matrix.now c.args.cycle.now n (linked n c.close.new.links) edge.first edge.last edge.code c.give_up-edges.result
-          c.close.new.matrix c.give_up-edges.new.matrix c.give_up-edges.new.cycle c.requires.legal c.points.ensures
-          (with_number K N c.args.matrix.now c.args.cycle.now n c.close.new.links edge.first edge.last edge.code c.points.ensures c.in-Err.ensures.ends)
+          c.close.new.matrix c.give_up-edges.new.matrix c.give_up-edges.new.cycle c.points-n.ensures.legal c.points-n.ensures.points
+          (with_number K N c.args.matrix.now c.args.cycle.now n c.close.new.links edge.first edge.last edge.code c.points-n.ensures.points c.in-Err.ensures.ends)
           c.close.ensures.rest c.give_up-edges.ensures.cycle c.give_up-edges.ensures.blank,
     )

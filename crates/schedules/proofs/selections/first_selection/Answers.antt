@@ -8,71 +8,71 @@ use Rattle.schedules.proofs.selections.first_selection.Goals.{in-Some+else-loop-
 pub selections-init : goal.selections-init
 selections-init g c = (
   refl,
-  turning_begins (g.T.Source.means c.args.source.now) (place_of (g.T.Source.means c.args.source.now) c.args.places) c.requires.places.in_order c.first_windows-start.result c.args.matrix.now
-      (omega (arith, c.requires.legal.few_conditions, c.first_windows-start.ensures.long)) c.first_windows-start.ensures.zeros c.requires.closed,
+  turning_begins c.args.source.now (place_of c.args.source.now c.args.places) c.requires.places.in_order c.first_windows-start.result c.args.matrix.now
+      (omega (arith, c.get-asked.ensures.legal.few_conditions, c.first_windows-start.ensures.long)) c.first_windows-start.ensures.zeros c.requires.closed,
   refl,
 )
 
 pub loop-b-init : goal.loop-b-init
 loop-b-init g c = (
   c.selections.invariant.0,
-  turning_down (g.T.Source.means c.args.source.now) (place_of (g.T.Source.means c.args.source.now) c.args.places) c.requires.places.in_order 0 _ (omega arith) _ _ _ _ c.selections.invariant.1 c.in-Some.ensures.goes,
+  turning_down c.args.source.now (place_of c.args.source.now c.args.places) c.requires.places.in_order 0 _ (omega arith) _ _ _ _ c.selections.invariant.1 c.in-Some.ensures.goes,
   refl,
 )
 
 pub loop-c-init : goal.loop-c-init
 loop-c-init g c = (
   c.loop-b.invariant.0,
-  turning_down (g.T.Source.means c.args.source.now) (place_of (g.T.Source.means c.args.source.now) c.args.places) c.requires.places.in_order 1 _ (omega arith) _ _ _ _ c.loop-b.invariant.1 c.in-Some-descend.ensures.goes,
+  turning_down c.args.source.now (place_of c.args.source.now c.args.places) c.requires.places.in_order 1 _ (omega arith) _ _ _ _ c.loop-b.invariant.1 c.in-Some-descend.ensures.goes,
   refl,
 )
 
 pub loop-d-init : goal.loop-d-init
 loop-d-init g c = (
   c.loop-c.invariant.0,
-  turning_down (g.T.Source.means c.args.source.now) (place_of (g.T.Source.means c.args.source.now) c.args.places) c.requires.places.in_order 2 _ (omega arith) _ _ _ _ c.loop-c.invariant.1 c.in-Some-descend-2.ensures.goes,
+  turning_down c.args.source.now (place_of c.args.source.now c.args.places) c.requires.places.in_order 2 _ (omega arith) _ _ _ _ c.loop-c.invariant.1 c.in-Some-descend-2.ensures.goes,
   refl,
 )
 
 pub loop-e-init : goal.loop-e-init
 loop-e-init g c = (
   c.loop-d.invariant.0,
-  turning_down (g.T.Source.means c.args.source.now) (place_of (g.T.Source.means c.args.source.now) c.args.places) c.requires.places.in_order 3 _ (omega arith) _ _ _ _ c.loop-d.invariant.1 c.in-Some-descend-3.ensures.goes,
+  turning_down c.args.source.now (place_of c.args.source.now c.args.places) c.requires.places.in_order 3 _ (omega arith) _ _ _ _ c.loop-d.invariant.1 c.in-Some-descend-3.ensures.goes,
   refl,
 )
 
 pub loop-f-init : goal.loop-f-init
 loop-f-init g c = (
   c.loop-e.invariant.0,
-  turning_down (g.T.Source.means c.args.source.now) (place_of (g.T.Source.means c.args.source.now) c.args.places) c.requires.places.in_order 4 _ (omega arith) _ _ _ _ c.loop-e.invariant.1 c.in-Some-descend-4.ensures.goes,
+  turning_down c.args.source.now (place_of c.args.source.now c.args.places) c.requires.places.in_order 4 _ (omega arith) _ _ _ _ c.loop-e.invariant.1 c.in-Some-descend-4.ensures.goes,
   refl,
 )
 
 pub descend-requires-clause-turn : goal.descend-requires-clause-turn
 descend-requires-clause-turn g c =
-    turn_there _ _ _ _ (turned (g.T.Source.means c.args.source.now) c.args.places c.requires.places 0 _ c.turns-a-end.ensures) c.selections-test.true
+    turn_there _ _ _ _ (turned c.get-asked.ensures.means c.args.places c.requires.places 0 _ c.turns-a-end.ensures) c.selections-test.true
 
 pub descend-requires-in-loop-b-clause-turn : goal.descend-requires-in-loop-b-clause-turn
 descend-requires-in-loop-b-clause-turn g c =
-    turn_there _ _ _ _ (turned (g.T.Source.means c.args.source.now) c.args.places c.requires.places 1 _ c.turns-b-end.ensures) c.loop-b-test.true
+    turn_there _ _ _ _ (turned c.get-asked.ensures.means c.args.places c.requires.places 1 _ c.turns-b-end.ensures) c.loop-b-test.true
 
 pub descend-requires-in-loop-c-clause-turn : goal.descend-requires-in-loop-c-clause-turn
 descend-requires-in-loop-c-clause-turn g c =
-    turn_there _ _ _ _ (turned (g.T.Source.means c.args.source.now) c.args.places c.requires.places 2 _ c.turns-c-end.ensures) c.loop-c-test.true
+    turn_there _ _ _ _ (turned c.get-asked.ensures.means c.args.places c.requires.places 2 _ c.turns-c-end.ensures) c.loop-c-test.true
 
 pub descend-requires-in-loop-d-clause-turn : goal.descend-requires-in-loop-d-clause-turn
-descend-requires-in-loop-d-clause-turn g c = turn_there _ _ _ _ (turned (g.T.Source.means c.args.source.now) c.args.places c.requires.places 3 _ c.turns-d-end.ensures) c.loop-d-test.true
+descend-requires-in-loop-d-clause-turn g c = turn_there _ _ _ _ (turned c.get-asked.ensures.means c.args.places c.requires.places 3 _ c.turns-d-end.ensures) c.loop-d-test.true
 
 pub descend-requires-in-loop-e-clause-turn : goal.descend-requires-in-loop-e-clause-turn
-descend-requires-in-loop-e-clause-turn g c = turn_there _ _ _ _ (turned (g.T.Source.means c.args.source.now) c.args.places c.requires.places 4 _ c.turns-e-end.ensures) c.loop-e-test.true
+descend-requires-in-loop-e-clause-turn g c = turn_there _ _ _ _ (turned c.get-asked.ensures.means c.args.places c.requires.places 4 _ c.turns-e-end.ensures) c.loop-e-test.true
 
 pub descend-requires-in-loop-f-clause-turn : goal.descend-requires-in-loop-f-clause-turn
-descend-requires-in-loop-f-clause-turn g c = turn_there _ _ _ _ (turned (g.T.Source.means c.args.source.now) c.args.places c.requires.places 5 _ c.turns-f-end.ensures) c.loop-f-test.true
+descend-requires-in-loop-f-clause-turn g c = turn_there _ _ _ _ (turned c.get-asked.ensures.means c.args.places c.requires.places 5 _ c.turns-f-end.ensures) c.loop-f-test.true
 
 pub loop-f-preserved : goal.loop-f-preserved
 loop-f-preserved g c = (
   c.loop-f.invariant.0,
-  turning_past (g.T.Source.means c.args.source.now) (place_of (g.T.Source.means c.args.source.now) c.args.places) c.requires.places.in_order 5 _ _ _ _ c.loop-f.invariant.1 c.in_default-descend-5.ensures.goes,
+  turning_past c.args.source.now (place_of c.args.source.now c.args.places) c.requires.places.in_order 5 _ _ _ _ c.loop-f.invariant.1 c.in_default-descend-5.ensures.goes,
   c.descend-in-loop-f.ensures.rest ∙ c.loop-f.invariant.2,
 )
 
@@ -82,14 +82,14 @@ loop-e-preserved g c =
       | in-Some-descend-4+else-loop-f-test w ↦
           simp (w.found-is, w.matrix-is) (
             w.loop-f.invariant.0,
-            turning_through (g.T.Source.means c.args.source.now) (place_of (g.T.Source.means c.args.source.now) c.args.places) c.requires.places.in_order 4 _ _ _ (omega arith) _ _ _ _ _ _ c.loop-e.invariant.1
-                w.in-Some-descend-4.ensures.goes (turned (g.T.Source.means c.args.source.now) c.args.places c.requires.places 5 _ w.turns-f-end.ensures) w.loop-f-test.false w.loop-f.invariant.1,
+            turning_through c.args.source.now (place_of c.args.source.now c.args.places) c.requires.places.in_order 4 _ _ _ (omega arith) _ _ _ _ _ _ c.loop-e.invariant.1
+                w.in-Some-descend-4.ensures.goes (turned c.get-asked.ensures.means c.args.places c.requires.places 5 _ w.turns-f-end.ensures) w.loop-f-test.false w.loop-f.invariant.1,
             w.loop-f.invariant.2 ∙ c.descend-in-loop-e.ensures.rest ∙ c.loop-e.invariant.2,
           )
       | in_default-descend-4 w ↦
           simp (w.found-is, w.matrix-is) (
             c.loop-e.invariant.0,
-            turning_past (g.T.Source.means c.args.source.now) (place_of (g.T.Source.means c.args.source.now) c.args.places) c.requires.places.in_order 4 _ _ _ _ c.loop-e.invariant.1 w.in_default-descend-4.ensures.goes,
+            turning_past c.args.source.now (place_of c.args.source.now c.args.places) c.requires.places.in_order 4 _ _ _ _ c.loop-e.invariant.1 w.in_default-descend-4.ensures.goes,
             c.descend-in-loop-e.ensures.rest ∙ c.loop-e.invariant.2,
           )
     ]
@@ -100,14 +100,14 @@ loop-d-preserved g c =
       | in-Some-descend-3+else-loop-e-test w ↦
           simp (w.found-is, w.matrix-is) (
             w.loop-e.invariant.0,
-            turning_through (g.T.Source.means c.args.source.now) (place_of (g.T.Source.means c.args.source.now) c.args.places) c.requires.places.in_order 3 _ _ _ (omega arith) _ _ _ _ _ _ c.loop-d.invariant.1
-                w.in-Some-descend-3.ensures.goes (turned (g.T.Source.means c.args.source.now) c.args.places c.requires.places 4 _ w.turns-e-end.ensures) w.loop-e-test.false w.loop-e.invariant.1,
+            turning_through c.args.source.now (place_of c.args.source.now c.args.places) c.requires.places.in_order 3 _ _ _ (omega arith) _ _ _ _ _ _ c.loop-d.invariant.1
+                w.in-Some-descend-3.ensures.goes (turned c.get-asked.ensures.means c.args.places c.requires.places 4 _ w.turns-e-end.ensures) w.loop-e-test.false w.loop-e.invariant.1,
             w.loop-e.invariant.2 ∙ c.descend-in-loop-d.ensures.rest ∙ c.loop-d.invariant.2,
           )
       | in_default-descend-3 w ↦
           simp (w.found-is, w.matrix-is) (
             c.loop-d.invariant.0,
-            turning_past (g.T.Source.means c.args.source.now) (place_of (g.T.Source.means c.args.source.now) c.args.places) c.requires.places.in_order 3 _ _ _ _ c.loop-d.invariant.1 w.in_default-descend-3.ensures.goes,
+            turning_past c.args.source.now (place_of c.args.source.now c.args.places) c.requires.places.in_order 3 _ _ _ _ c.loop-d.invariant.1 w.in_default-descend-3.ensures.goes,
             c.descend-in-loop-d.ensures.rest ∙ c.loop-d.invariant.2,
           )
     ]
@@ -118,14 +118,14 @@ loop-c-preserved g c =
       | in-Some-descend-2+else-loop-d-test w ↦
           simp (w.found-is, w.matrix-is) (
             w.loop-d.invariant.0,
-            turning_through (g.T.Source.means c.args.source.now) (place_of (g.T.Source.means c.args.source.now) c.args.places) c.requires.places.in_order 2 _ _ _ (omega arith) _ _ _ _ _ _ c.loop-c.invariant.1
-                w.in-Some-descend-2.ensures.goes (turned (g.T.Source.means c.args.source.now) c.args.places c.requires.places 3 _ w.turns-d-end.ensures) w.loop-d-test.false w.loop-d.invariant.1,
+            turning_through c.args.source.now (place_of c.args.source.now c.args.places) c.requires.places.in_order 2 _ _ _ (omega arith) _ _ _ _ _ _ c.loop-c.invariant.1
+                w.in-Some-descend-2.ensures.goes (turned c.get-asked.ensures.means c.args.places c.requires.places 3 _ w.turns-d-end.ensures) w.loop-d-test.false w.loop-d.invariant.1,
             w.loop-d.invariant.2 ∙ c.descend-in-loop-c.ensures.rest ∙ c.loop-c.invariant.2,
           )
       | in_default-descend-2 w ↦
           simp (w.found-is, w.matrix-is) (
             c.loop-c.invariant.0,
-            turning_past (g.T.Source.means c.args.source.now) (place_of (g.T.Source.means c.args.source.now) c.args.places) c.requires.places.in_order 2 _ _ _ _ c.loop-c.invariant.1 w.in_default-descend-2.ensures.goes,
+            turning_past c.args.source.now (place_of c.args.source.now c.args.places) c.requires.places.in_order 2 _ _ _ _ c.loop-c.invariant.1 w.in_default-descend-2.ensures.goes,
             c.descend-in-loop-c.ensures.rest ∙ c.loop-c.invariant.2,
           )
     ]
@@ -136,14 +136,14 @@ loop-b-preserved g c =
       | in-Some-descend+else-loop-c-test w ↦
           simp (w.found-is, w.matrix-is) (
             w.loop-c.invariant.0,
-            turning_through (g.T.Source.means c.args.source.now) (place_of (g.T.Source.means c.args.source.now) c.args.places) c.requires.places.in_order 1 _ _ _ (omega arith) _ _ _ _ _ _ c.loop-b.invariant.1
-                w.in-Some-descend.ensures.goes (turned (g.T.Source.means c.args.source.now) c.args.places c.requires.places 2 _ w.turns-c-end.ensures) w.loop-c-test.false w.loop-c.invariant.1,
+            turning_through c.args.source.now (place_of c.args.source.now c.args.places) c.requires.places.in_order 1 _ _ _ (omega arith) _ _ _ _ _ _ c.loop-b.invariant.1
+                w.in-Some-descend.ensures.goes (turned c.get-asked.ensures.means c.args.places c.requires.places 2 _ w.turns-c-end.ensures) w.loop-c-test.false w.loop-c.invariant.1,
             w.loop-c.invariant.2 ∙ c.descend-in-loop-b.ensures.rest ∙ c.loop-b.invariant.2,
           )
       | in_default-descend w ↦
           simp (w.found-is, w.matrix-is) (
             c.loop-b.invariant.0,
-            turning_past (g.T.Source.means c.args.source.now) (place_of (g.T.Source.means c.args.source.now) c.args.places) c.requires.places.in_order 1 _ _ _ _ c.loop-b.invariant.1 w.in_default-descend.ensures.goes,
+            turning_past c.args.source.now (place_of c.args.source.now c.args.places) c.requires.places.in_order 1 _ _ _ _ c.loop-b.invariant.1 w.in_default-descend.ensures.goes,
             c.descend-in-loop-b.ensures.rest ∙ c.loop-b.invariant.2,
           )
     ]
@@ -154,22 +154,22 @@ selections-preserved g c =
       | in-Some+else-loop-b-test w ↦
           simp (w.found-is, w.matrix-is) (
             w.loop-b.invariant.0,
-            turning_through (g.T.Source.means c.args.source.now) (place_of (g.T.Source.means c.args.source.now) c.args.places) c.requires.places.in_order 0 _ _ _ (omega arith) _ _ _ _ _ _ c.selections.invariant.1
-                w.in-Some.ensures.goes (turned (g.T.Source.means c.args.source.now) c.args.places c.requires.places 1 _ w.turns-b-end.ensures) w.loop-b-test.false w.loop-b.invariant.1,
+            turning_through c.args.source.now (place_of c.args.source.now c.args.places) c.requires.places.in_order 0 _ _ _ (omega arith) _ _ _ _ _ _ c.selections.invariant.1
+                w.in-Some.ensures.goes (turned c.get-asked.ensures.means c.args.places c.requires.places 1 _ w.turns-b-end.ensures) w.loop-b-test.false w.loop-b.invariant.1,
             w.loop-b.invariant.2 ∙ c.descend.ensures.rest ∙ c.selections.invariant.2,
           )
       | in_default w ↦
           simp (w.found-is, w.matrix-is) (
             c.selections.invariant.0,
-            turning_past (g.T.Source.means c.args.source.now) (place_of (g.T.Source.means c.args.source.now) c.args.places) c.requires.places.in_order 0 _ _ _ _ c.selections.invariant.1 w.in_default.ensures.goes,
+            turning_past c.args.source.now (place_of c.args.source.now c.args.places) c.requires.places.in_order 0 _ _ _ _ c.selections.invariant.1 w.in_default.ensures.goes,
             c.descend.ensures.rest ∙ c.selections.invariant.2,
           )
     ]
 
 pub returns-after-selections-clause-found : goal.returns-after-selections-clause-found
 returns-after-selections-clause-found g c =
-    rw c.selections.invariant.0 (turning_ends (g.T.Source.means c.args.source.now) (place_of (g.T.Source.means c.args.source.now) c.args.places) c.requires.places.in_order _ _ _ _ (turned (g.T.Source.means c.args.source.now) c.args.places c.requires.places 0 _ c.turns-a-end.ensures) c.selections-test.false c.selections.invariant.1)
+    rw c.selections.invariant.0 (turning_ends c.args.source.now (place_of c.args.source.now c.args.places) c.requires.places.in_order _ _ _ _ (turned c.get-asked.ensures.means c.args.places c.requires.places 0 _ c.turns-a-end.ensures) c.selections-test.false c.selections.invariant.1)
 
 pub returns-in-Some-descend-5-clause-found : goal.returns-in-Some-descend-5-clause-found
 returns-in-Some-descend-5-clause-found g c =
-    turning_found (g.T.Source.means c.args.source.now) (place_of (g.T.Source.means c.args.source.now) c.args.places) c.requires.places.in_order _ _ _ _ _ c.loop-f.invariant.1 c.in-Some-descend-5.ensures.goes
+    turning_found c.args.source.now (place_of c.args.source.now c.args.places) c.requires.places.in_order _ _ _ _ _ c.loop-f.invariant.1 c.in-Some-descend-5.ensures.goes

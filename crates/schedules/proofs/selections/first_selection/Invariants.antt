@@ -7,35 +7,35 @@ use Rattle.schedules.proofs.selections.first_selection.Given as goal
 abbrev pub invariant-selections : goal.invariant-selections
 invariant-selections g l =
     (l.found ≡ None)
-    × Turning g.T.Span.Span.kind (g.T.Source.means l.source) (place_of (g.T.Source.means l.source) l.places) 0 l.start l.a l.matrix
-    × Rest (g.T.Source.means l.source).points l.initial.matrix l.matrix
+    × Turning g.T.Span.Span.kind l.source (place_of l.source l.places) 0 l.start l.a l.matrix
+    × Rest l.source.points l.initial.matrix l.matrix
 
 abbrev pub invariant-loop-b : goal.invariant-loop-b
 invariant-loop-b g l =
     (l.found ≡ None)
-    × Turning g.T.Span.Span.kind (g.T.Source.means l.source) (place_of (g.T.Source.means l.source) l.places) 1 l.one l.b l.matrix
-    × Rest (g.T.Source.means l.source).points l.initial.matrix l.matrix
+    × Turning g.T.Span.Span.kind l.source (place_of l.source l.places) 1 l.one l.b l.matrix
+    × Rest l.source.points l.initial.matrix l.matrix
 
 abbrev pub invariant-loop-c : goal.invariant-loop-c
 invariant-loop-c g l =
     (l.found ≡ None)
-    × Turning g.T.Span.Span.kind (g.T.Source.means l.source) (place_of (g.T.Source.means l.source) l.places) 2 l.two l.c l.matrix
-    × Rest (g.T.Source.means l.source).points l.initial.matrix l.matrix
+    × Turning g.T.Span.Span.kind l.source (place_of l.source l.places) 2 l.two l.c l.matrix
+    × Rest l.source.points l.initial.matrix l.matrix
 
 abbrev pub invariant-loop-d : goal.invariant-loop-d
 invariant-loop-d g l =
     (l.found ≡ None)
-    × Turning g.T.Span.Span.kind (g.T.Source.means l.source) (place_of (g.T.Source.means l.source) l.places) 3 l.three l.d l.matrix
-    × Rest (g.T.Source.means l.source).points l.initial.matrix l.matrix
+    × Turning g.T.Span.Span.kind l.source (place_of l.source l.places) 3 l.three l.d l.matrix
+    × Rest l.source.points l.initial.matrix l.matrix
 
 abbrev pub invariant-loop-e : goal.invariant-loop-e
 invariant-loop-e g l =
     (l.found ≡ None)
-    × Turning g.T.Span.Span.kind (g.T.Source.means l.source) (place_of (g.T.Source.means l.source) l.places) 4 l.four l.e l.matrix
-    × Rest (g.T.Source.means l.source).points l.initial.matrix l.matrix
+    × Turning g.T.Span.Span.kind l.source (place_of l.source l.places) 4 l.four l.e l.matrix
+    × Rest l.source.points l.initial.matrix l.matrix
 
 abbrev pub invariant-loop-f : goal.invariant-loop-f
 invariant-loop-f g l =
     (l.found ≡ None)
-    × Turning g.T.Span.Span.kind (g.T.Source.means l.source) (place_of (g.T.Source.means l.source) l.places) 5 l.five l.f l.matrix
-    × Rest (g.T.Source.means l.source).points l.initial.matrix l.matrix
+    × Turning g.T.Span.Span.kind l.source (place_of l.source l.places) 5 l.five l.f l.matrix
+    × Rest l.source.points l.initial.matrix l.matrix
