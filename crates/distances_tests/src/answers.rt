@@ -21,6 +21,7 @@ pub fn row(from: usize, to: usize, low: i64, high: i64) -> Row<Minutes> {
 }
 
 // The number and the detail of the refusal; none where there is no refusal.
+// Kept in both test crates that ask it: one line, for which a crate of its own would be no plainer.
 pub fn refusal(res: Result<(), Fault>) -> Option<(usize, usize)> {
     res.err().map(|fault| (fault.number(), fault.detail()))
 }

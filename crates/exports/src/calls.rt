@@ -57,6 +57,7 @@ fn count_granted<T: Source>(
 ) -> usize
     ensures { AllOrNone T.Span.Span.kind (T.Source.means source.now) (length memory.old) (length cycle.old) times result }
 {
+    // Kept as a count in a loop: each call writes the lent memory, so a closure for `filter` would need clauses of its own for what it leaves there.
     let mut granted = 0;
     for _i in 0..times {
         if tighten(source, memory, cycle).is_ok() {

@@ -11,6 +11,7 @@ const AMPLE: Lent = Lent {
 };
 
 // The number and the detail of the refusal; none where there is no refusal.
+// Kept in both test crates that ask it: one line, for which a crate of its own would be no plainer.
 fn refusal(res: Result<(), Fault>) -> Option<(usize, usize)> {
     res.err().map(|fault| (fault.number(), fault.detail()))
 }
