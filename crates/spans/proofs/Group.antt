@@ -1,10 +1,9 @@
 -- Sums and opposites behave as in an ordered group while the sizes of what is added stay within reach. Assumes nothing.
 -- Every premise is one about sizes. Of presence only 'at least' is cited: that a sum is there where the sizes allow it.
 use Rattle.std.proofs.Common.{◌≡◌, ℕ, ◌+◌, ◌*◌, ◌≤◌, true, is_some, Some, None, Option, unwrap_or, sym, refl, ap, ◌∙◌, inl, inr, arith}
-use Rattle.std.proofs.lemmas.Bool.{both_ways}
+use Rattle.std.proofs.lemmas.Bool.{both_ways, false_from_ne_true}
 use Rattle.spans.specs.Kind.{Kind, Laws, Compared, is_less, is_same, is_greater, reach, ◌<⟨◌⟩◌, ◌≤⟨◌⟩◌}
 use Rattle.spans.specs.Sums.{◌⊕⟨◌⟩◌, ⊖⟨◌⟩◌}
-use Rattle.spans.specs.Parts.{refuted}
 use Rattle.spans.specs.Order.{irrefl, lt_le, le_of_eq, le_cases, le_trans}
 
 some_or : {X : Type 0} (o : Option X) (d : X) → is_some o ≡ true → o ≡ Some (unwrap_or o d)
@@ -77,7 +76,7 @@ module _ {S : Type 0} {K : Kind S} (laws : Laws S K) where
 
   pub le_cancel : (a b c : S) → K.size a + K.size c ≤ reach → K.size b + K.size c ≤ reach
       → (a ⊕⟨ K ⟩ c) ≤⟨ K ⟩ (b ⊕⟨ K ⟩ c) → a ≤⟨ K ⟩ b
-  le_cancel a b c h k l = refuted _ (λ s. both_ways _ l (lt_plus b a c k h s))
+  le_cancel a b c h k l = false_from_ne_true _ (λ s. both_ways _ l (lt_plus b a c k h s))
 
   pub cancel : (a b c : S) → K.size a + K.size c ≤ reach → K.size b + K.size c ≤ reach
       → a ⊕⟨ K ⟩ c ≡ b ⊕⟨ K ⟩ c → a ≡ b
@@ -97,7 +96,7 @@ module _ {S : Type 0} {K : Kind S} (laws : Laws S K) where
       let s₂ : K.size b + K.size (⊖⟨ K ⟩ b) ≤ reach = omega arith in
       let s₃ : K.size (⊖⟨ K ⟩ a) + K.size a ≤ reach = omega arith in
       let s₄ : K.size (⊖⟨ K ⟩ b) + K.size a ≤ reach = omega arith in
-      refuted _ (λ s.
+      false_from_ne_true _ (λ s.
       let low : (a ⊕⟨ K ⟩ (⊖⟨ K ⟩ b)) ≤⟨ K ⟩ K.zero = rw (inverse_right b k) at (le_plus a b (⊖⟨ K ⟩ b) s₁ s₂ l) in
       let high : K.zero <⟨ K ⟩ ((⊖⟨ K ⟩ b) ⊕⟨ K ⟩ a) = rw (inverse_left a h) at (lt_plus (⊖⟨ K ⟩ a) (⊖⟨ K ⟩ b) a s₃ s₄ s) in
       both_ways _ low (rw (comm (⊖⟨ K ⟩ b) a s₄) at high))

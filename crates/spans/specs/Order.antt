@@ -1,9 +1,8 @@
 -- The order of a kind, from its laws. Assumes nothing.
 use Rattle.std.specs.Prelude.{◌≡◌, ◌⊎◌, refl}
 use Rattle.std.proofs.Common.{sym, subst, inl, inr}
-use Rattle.std.proofs.lemmas.Bool.{both_ways, cases_Bool}
+use Rattle.std.proofs.lemmas.Bool.{both_ways, cases_Bool, false_from_ne_true}
 use Rattle.spans.specs.Kind.{Kind, Laws, Compared, is_less, is_same, is_greater, ◌<⟨◌⟩◌, ◌≤⟨◌⟩◌}
-use Rattle.spans.specs.Parts.{refuted}
 
 module _ {S : Type 0} (K : Kind S) where
   pub not_itself : (a : S) → Compared K a a → a <⟨ K ⟩ a → ⊥
@@ -24,10 +23,10 @@ module _ {S : Type 0} {K : Kind S} (laws : Laws S K) where
   lt_trans {a} {b} {c} = laws.carries_over a b c
 
   pub lt_le : {a b : S} → a <⟨ K ⟩ b → a ≤⟨ K ⟩ b
-  lt_le {a} {b} h = refuted _ (λ k. irrefl (lt_trans {a = a} {b = b} {c = a} h k))
+  lt_le {a} {b} h = false_from_ne_true _ (λ k. irrefl (lt_trans {a = a} {b = b} {c = a} h k))
 
   pub le_refl : {a : S} → a ≤⟨ K ⟩ a
-  le_refl {a} = refuted _ irrefl
+  le_refl {a} = false_from_ne_true _ irrefl
 
   pub le_of_eq : {a b : S} → a ≡ b → a ≤⟨ K ⟩ b
   le_of_eq {a} e = subst (λ (x : S). a ≤⟨ K ⟩ x) e le_refl

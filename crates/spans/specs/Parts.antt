@@ -1,11 +1,8 @@
 -- Values that are there under a test, and an order by its three cases. Assumes nothing.
 use Rattle.std.specs.Prelude.{◌≡◌, Bool, true, false, cond, ◌⊎◌, is_some, Some, None, Option, ◌≢◌, refl}
 use Rattle.std.proofs.Common.{inl, inr, arith}
+use Rattle.std.proofs.lemmas.Bool.{false_from_ne_true}
 use Rattle.spans.specs.Kind.{Kind, Compared, is_less, is_same, is_greater}
-
-pub refuted : (b : Bool) → (b ≢ true) → b ≡ false
-refuted true n = absurd (n refl)
-refuted false n = refl
 
 -- ---- a value under a test
 pub guard_value : {X : Type 0} (b : Bool) (o : Option X) (x : X) → cond b o None ≡ Some x → o ≡ Some x
@@ -26,8 +23,8 @@ module _ {S : Type 0} (K : Kind S)
     (over : (a b c : S) → K.less a b ≡ true → K.less b c ≡ true → K.less a c ≡ true) where
   pub one_of_three : (a b : S) → (K.less a b ≡ true) ⊎ ((a ≡ b) ⊎ (K.less b a ≡ true)) → Compared K a b
   one_of_three a b (inl h) =
-      is_less h (λ e. never_itself b (rw e at h)) (refuted _ (λ k. never_itself a (over a b a h k)))
+      is_less h (λ e. never_itself b (rw e at h)) (false_from_ne_true _ (λ k. never_itself a (over a b a h k)))
   one_of_three a b (inr (inl e)) =
-      is_same (refuted _ (λ h. never_itself b (rw e at h))) e (refuted _ (λ h. never_itself b (rw e at h)))
+      is_same (false_from_ne_true _ (λ h. never_itself b (rw e at h))) e (false_from_ne_true _ (λ h. never_itself b (rw e at h)))
   one_of_three a b (inr (inr k)) =
-      is_greater (refuted _ (λ h. never_itself a (over a b a h k))) (λ e. never_itself b (rw e at k)) k
+      is_greater (false_from_ne_true _ (λ h. never_itself a (over a b a h k))) (λ e. never_itself b (rw e at k)) k
