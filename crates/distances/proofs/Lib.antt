@@ -8,7 +8,7 @@ pub mod LeastEdges
 pub mod Stages
 pub mod Plans
 mod Furthest
-mod Reduced
+mod Picked
 pub mod OneDating
 pub mod Dating
 pub mod Deciding

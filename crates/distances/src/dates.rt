@@ -49,22 +49,18 @@ impl<S: Span> Dating<'_, S> {
     }
 
     // The greatest of the dates that p is not to be earlier than, from the points before it.
-    // Kept as two chains, here and below: one function of both would take the offer and the order as closures, and is longer than either.
+    // Kept as two chains, here and below: one function of both would take the offer and the pick as closures, and is longer than either.
     fn greatest_earliest(&self) -> Option<S>
         ensures { GreatestSoFar S.Span.kind (table self.now.n self.now.matrix.now) self.now.dates.now self.now.p self.now.p result }
     {
-        (0..self.p)
-            .filter_map(|q| self.earliest_from(q))
-            .reduce(|x, y| if x.is_less(y) { y } else { x })
+        (0..self.p).filter_map(|q| self.earliest_from(q)).max()
     }
 
     // The least of the dates that p is not to be later than, from the points before it.
     fn least_latest(&self) -> Option<S>
         ensures { LeastSoFar S.Span.kind (table self.now.n self.now.matrix.now) self.now.dates.now self.now.p self.now.p result }
     {
-        (0..self.p)
-            .filter_map(|q| self.latest_from(q))
-            .reduce(|x, y| if y.is_less(x) { y } else { x })
+        (0..self.p).filter_map(|q| self.latest_from(q)).min()
     }
 
     // The greatest earliest date, else the least latest one, else zero.

@@ -1,4 +1,4 @@
--- The chain gives what `reduce` makes of the offers of the points before p, in turn, and that is the least latest date. Assumes nothing.
+-- The chain gives the least of the offers of the points before p, and that is the least latest date. Assumes nothing.
 use Rattle.std.proofs.Common.{rules, tests, ◌≡◌, arith, cond, sym, subst}
 use Rattle.std.specs.List.{reduce, filter_map, range_with_len}
 use Rattle.std.proofs.lemmas.Iterator.{YieldsList-from_range}
@@ -8,7 +8,7 @@ use Rattle.distances.specs.Limits.{largest_total}
 use Rattle.distances.specs.Matrix.{table}
 use Rattle.distances.specs.Steps.{latest, LeastSoFar}
 use Rattle.distances.proofs.Dating.{least_of}
-use Rattle.distances.proofs.Reduced.{reduced}
+use Rattle.distances.proofs.Picked.{least_is}
 use Rattle.distances.proofs.dates.Dating.least_latest.Goals as goal
 
 pub returns : goal.returns
@@ -16,9 +16,9 @@ returns g c =
     let K = g.S.Span.kind in
     let it = c.args.self.now in
     let d = table it.n it.matrix.now in
-    let same : c.reduce.result
+    let same : c.min.result
     ≡ reduce (λ x y. cond (K.less y x) y x) (filter_map (λ q. latest K (date K it.dates.now q) (d q it.p)) (range_with_len 0 it.p)) =
-    reduced _ _ (λ x y r q k. search (rules, tests)) _ c.reduce.result c.reduce.ensures.ran
+    least_is g.met.S.Span.lawful g.met.S.Ord.total g.met.S.Span.ordered _ c.min.result c.min.ensures.ran
     (YieldsList-from_filter_map _ (λ q. latest K (date K it.dates.now q) (d q it.p))
     (YieldsList-from_range 0 it.p it.p c.filter_map.ensures.source (omega arith)) c.filter_map.ensures.closure
     (λ x r q k. search (rules, tests))) in
