@@ -27,7 +27,7 @@ pub fn close<T: Source>(
     ensures rest { Rest source.now.points matrix.old matrix.new }
 {
     let n = source.points();
-    fill_edges(source, n, matrix, links);
+    fill_edges(source, matrix, links);
     for k in 0..n {
         if let Some(edge) = find_closing(matrix, &Ways { n, links }, k) {
             return Err(edge);

@@ -64,22 +64,20 @@ impl Edge {
 }
 
 // The edge, where it is the least so far.
-// Kept: n goes beside the source whose points it counts, here and below; without it each clause would name the source's points instead.
 fn put_edge<T: Source>(
     source: &LegalSource<T>,
     edge: Edge,
-    n: usize,
     matrix: &mut [Option<T::Span>],
     links: &mut [Link],
 )
-    requires points { (n ≡ source.now.points) × (condition_of edge < length source.now.conditions) }
-    requires room { (n * n ≤ length matrix.old) × (n * n ≤ length links.old) }
-    ensures filled { (edges : ℕ → ℕ → Coded T.Span) → Filled n edges matrix.old links.old
-        → Filled n (λ i j. lesser T.Span.Span.kind (edges i j) (edge_at T.Span.Span.kind source.now edge i j)) matrix.new links.new }
-    ensures rest { Rest n matrix.old matrix.new }
+    requires there { condition_of edge < length source.now.conditions }
+    requires room { (source.now.points * source.now.points ≤ length matrix.old) × (source.now.points * source.now.points ≤ length links.old) }
+    ensures filled { (edges : ℕ → ℕ → Coded T.Span) → Filled source.now.points edges matrix.old links.old
+        → Filled source.now.points (λ i j. lesser T.Span.Span.kind (edges i j) (edge_at T.Span.Span.kind source.now edge i j)) matrix.new links.new }
+    ensures rest { Rest source.now.points matrix.old matrix.new }
 {
     let asked = source.get();
-    let at = place(n, edge.from(asked), edge.to(asked));
+    let at = place(source.points(), edge.from(asked), edge.to(asked));
     improve(
         matrix,
         links,
@@ -92,19 +90,18 @@ fn put_edge<T: Source>(
 // Both edges of condition k, each where it is the least so far.
 fn put_condition<T: Source>(
     source: &LegalSource<T>,
-    n: usize,
     k: usize,
     matrix: &mut [Option<T::Span>],
     links: &mut [Link],
 )
-    requires points { (n ≡ source.now.points) × (k < length source.now.conditions) }
-    requires room { (n * n ≤ length matrix.old) × (n * n ≤ length links.old) }
-    requires filled { Filled n (least_edge T.Span.Span.kind source.now k) matrix.old links.old }
-    ensures filled { Filled n (least_edge T.Span.Span.kind source.now (suc k)) matrix.new links.new }
-    ensures rest { Rest n matrix.old matrix.new }
+    requires there { k < length source.now.conditions }
+    requires room { (source.now.points * source.now.points ≤ length matrix.old) × (source.now.points * source.now.points ≤ length links.old) }
+    requires filled { Filled source.now.points (least_edge T.Span.Span.kind source.now k) matrix.old links.old }
+    ensures filled { Filled source.now.points (least_edge T.Span.Span.kind source.now (suc k)) matrix.new links.new }
+    ensures rest { Rest source.now.points matrix.old matrix.new }
 {
-    put_edge(source, Edge::Forward(k), n, matrix, links);
-    put_edge(source, Edge::Back(k), n, matrix, links);
+    put_edge(source, Edge::Forward(k), matrix, links);
+    put_edge(source, Edge::Back(k), matrix, links);
 }
 
 // Zero from each point to itself.
@@ -122,22 +119,21 @@ fn put_zeros<S: Span>(matrix: &mut [Option<S>], n: usize)
 // The least edges of all conditions, and zero from each point to itself; what stood in the memory does not matter.
 pub(crate) fn fill_edges<T: Source>(
     source: &LegalSource<T>,
-    n: usize,
     matrix: &mut [Option<T::Span>],
     links: &mut [Link],
 )
-    requires points { n ≡ source.now.points }
-    requires room { (n * n ≤ length matrix.old) × (n * n ≤ length links.old) }
-    ensures matrix { (i j : ℕ) → table n matrix.new i j ≡ begun T.Span.Span.kind source.now i j }
+    requires room { (source.now.points * source.now.points ≤ length matrix.old) × (source.now.points * source.now.points ≤ length links.old) }
+    ensures matrix { (i j : ℕ) → table source.now.points matrix.new i j ≡ begun T.Span.Span.kind source.now i j }
     ensures links { (i j c : ℕ) (a : T.Span) → least_edge T.Span.Span.kind source.now (length source.now.conditions) i j ≡ Some (a, c)
-        → linked n links.new i j ≡ Link.Direct c }
-    ensures straight { (i j : ℕ) → is_direct (linked n links.new i j) ≡ true }
-    ensures rest { Rest n matrix.old matrix.new }
+        → linked source.now.points links.new i j ≡ Link.Direct c }
+    ensures straight { (i j : ℕ) → is_direct (linked source.now.points links.new i j) ≡ true }
+    ensures rest { Rest source.now.points matrix.old matrix.new }
 {
+    let n = source.points();
     matrix[..n * n].fill(None);
     links[..n * n].fill(Link::Direct(0));
     for k in 0..source.conditions() {
-        put_condition(source, n, k, matrix, links);
+        put_condition(source, k, matrix, links);
     }
     put_zeros(matrix, n);
 }

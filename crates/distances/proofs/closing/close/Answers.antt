@@ -2,6 +2,8 @@
 use Rattle.std.proofs.Common.{◌≡◌, ℕ, ◌<◌, refl, sym, subst, ◌∙◌, arith}
 use Rattle.distances.specs.Closing.{CannotClose}
 use Rattle.distances.specs.Matrix.{table, linked, Rest}
+use Rattle.distances.specs.Limits.{largest_total}
+use Rattle.distances.proofs.Stages.{Stands}
 use Rattle.distances.proofs.Endings.{standing_begins, standing_steps, standing_refuses, standing_ends}
 use Rattle.distances.proofs.closing.close.Goals as goal
 
@@ -10,8 +12,9 @@ loop-k-init g c =
     let N = c.args.source.now in
     let n = c.points-n.result in
     let filled = c.fill_edges.ensures in (
-      standing_begins g.met.T.Span.Span.lawful N c.points-n.ensures.legal (table n c.fill_edges.new.matrix) (linked n c.fill_edges.new.links)
-          filled.matrix filled.links filled.straight,
+      subst (λ (m : ℕ). Stands g.T.Span.Span.kind N largest_total (table m c.fill_edges.new.matrix) (linked m c.fill_edges.new.links) 0) (sym c.points-n.ensures.points)
+          (standing_begins g.met.T.Span.Span.lawful N c.points-n.ensures.legal (table N.points c.fill_edges.new.matrix) (linked N.points c.fill_edges.new.links)
+          filled.matrix filled.links filled.straight),
       refl,
     )
 
@@ -29,7 +32,7 @@ returns-in-Some g c =
           (subst (λ (m : ℕ). CannotClose K N (linked n c.loop-k.links) m edge.last edge.code) (sym found.first_is)
           (standing_refuses g.met.T.Span.Span.lawful N c.points-n.ensures.legal (table n c.loop-k.matrix) (linked n c.loop-k.links)
           c.loop-k.k c.loop-k.invariant.0 below edge.last found.last_below found.below_zero edge.code found.back));
-      rest = subst (λ (m : ℕ). Rest m c.args.matrix.now c.loop-k.matrix) is (c.loop-k.invariant.1 ∙ c.fill_edges.ensures.rest);
+      rest = subst (λ (m : ℕ). Rest m c.args.matrix.now c.loop-k.matrix) is (c.loop-k.invariant.1 ∙ (rw (← is) at c.fill_edges.ensures.rest));
     }
 
 pub loop-k-preserved : goal.loop-k-preserved

@@ -5,5 +5,5 @@ use Rattle.distances.proofs.edges.fill_edges.Given as goal
 
 abbrev pub invariant-loop-k : goal.invariant-loop-k
 invariant-loop-k g l =
-    Filled l.n (least_edge g.T.Span.Span.kind l.source l.k) l.matrix l.links
+    Filled l.source.points (least_edge g.T.Span.Span.kind l.source l.k) l.matrix l.links
     × Rest l.n l.initial.matrix l.matrix

@@ -6,11 +6,12 @@ use Rattle.distances.proofs.edges.put_edge.Goals as goal
 pub returns : goal.returns
 returns g c =
     let K = g.T.Span.Span.kind in
-    let n = c.args.n in
+    let n = c.args.source.now.points in
+    let is = c.points.ensures.points in
     let asked = c.get-asked.ensures in
     let N = g.T.Source.means c.get-asked.result.now in
     let there : (leaves N c.args.edge < n) × (reaches N c.args.edge < n) =
-    rw (asked.means, c.requires.points.0) (edge_there c.args.source.now c.args.edge asked.legal c.requires.points.1) in
+    rw asked.means (edge_there c.args.source.now c.args.edge asked.legal c.requires.there) in
     let t : Put K n c.from.result c.to.result c.code.result c.weight.result
     c.args.matrix.now c.improve.new.matrix c.args.links.now c.improve.new.links = record {
       at = c.place-at.result;
@@ -18,7 +19,7 @@ returns g c =
       column_there = omega (arith, there.1, c.to.ensures);
       room = omega arith;
       room_beside = omega arith;
-      at_is = c.place-at.ensures.place;
+      at_is = rw is at c.place-at.ensures.place;
       matrix_is = c.improve.ensures.matrix;
       links_are = c.improve.ensures.links;
     } in
