@@ -15,6 +15,7 @@ use spans::Span;
 
 // Leaves the least totals in the matrix, or refuses with the edge that closes a way below zero; the links then give that way,
 // and the matrix is of no use. What stood in the memory does not matter; past n×n the links are free.
+// Kept as a clause, here and where it is called: the room is that of memory which the caller lends.
 pub fn close<T: Source>(
     source: &LegalSource<T>,
     matrix: &mut [Option<T::Span>],

@@ -28,6 +28,7 @@ fn adds_up_below_zero<S: Span>(x: Option<S>, y: Option<S>) -> bool
         .is_some_and(|sum| sum.is_less(S::zero()))
 }
 
+// Kept as a clause, here and below: the room of the matrix stands beside the ways, since it is lent apart from their links.
 // The edge from i to k, where it closes the way from k to i below zero.
 fn closing_edge<S: Span>(
     matrix: &[Option<S>],

@@ -40,7 +40,7 @@ impl<S: Span> Dating<'_, S> {
     }
 
     // The date of q plus the entry from q to p, where that entry is there.
-    // Kept beside earliest_from: a sum in place of a difference, and the entry of the way there in place of that back.
+    // Kept beside earliest_from: one function of both would choose between two entries and between a sum and a difference, and so be both.
     fn latest_from(&self, q: usize) -> Option<S>
         requires { q < self.now.p }
         ensures { result ≡ latest S.Span.kind (date S.Span.kind self.now.dates.now q) (table self.now.n self.now.matrix.now q self.now.p) }
@@ -49,7 +49,7 @@ impl<S: Span> Dating<'_, S> {
     }
 
     // The greatest of the dates that p is not to be earlier than, from the points before it.
-    // Kept as two chains, here and below: one function of both would take the offer and the pick as closures, and is longer than either.
+    // Kept beside least_latest: one function of both would take the offer and the pick as closures, which is longer than these two lines.
     fn greatest_earliest(&self) -> Option<S>
         ensures { GreatestSoFar S.Span.kind (table self.now.n self.now.matrix.now) self.now.dates.now self.now.p self.now.p result }
     {
@@ -67,7 +67,7 @@ impl<S: Span> Dating<'_, S> {
     fn date(&self) -> S
         ensures { Dated S.Span.kind (table self.now.n self.now.matrix.now) self.now.dates.now self.now.p result }
     {
-        // Kept as a match: of `or_else` with a closure that calls least_latest the check knows nothing where the first is missing.
+        // Kept as a match: `or` would work out the least latest date each time, and of `or_else` with a closure that calls it the check knows nothing.
         match self.greatest_earliest() {
             Some(x) => x,
             None => self.least_latest().unwrap_or(S::zero()),

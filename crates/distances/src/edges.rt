@@ -14,15 +14,38 @@ use networks::Source;
 use spans::Span;
 
 // An edge of a condition: forward, with its hull's high end, or back, with the opposite of its low end.
-#[derive(Clone, Copy)]
-pub(crate) enum Edge {
+#[derive(Clone, Copy, Debug, PartialEq, Eq)]
+pub enum Edge {
     Forward(usize),
     Back(usize),
 }
 
+// The edge of a code.
+impl From<u16> for Edge {
+    ghost from_gives = { λ code edge. edge_code edge ≡ code };
+
+    fn from(code: u16) -> Edge {
+        let k = usize::from(code / 2);
+        if code % 2 == 0 {
+            Edge::Forward(k)
+        } else {
+            Edge::Back(k)
+        }
+    }
+}
+
 impl Edge {
+    // The number of its condition.
+    pub fn condition(self) -> usize
+        ensures { result ≡ condition_of self }
+    {
+        match self {
+            Edge::Forward(k) | Edge::Back(k) => k,
+        }
+    }
+
     // The point that it leaves.
-    fn from<T: Source>(self, source: &T) -> usize
+    pub fn leaves<T: Source>(self, source: &T) -> usize
         ensures { result ≡ leaves (T.Source.means source.now) self }
     {
         match self {
@@ -32,7 +55,7 @@ impl Edge {
     }
 
     // The point that it reaches.
-    fn to<T: Source>(self, source: &T) -> usize
+    pub fn reaches<T: Source>(self, source: &T) -> usize
         ensures { result ≡ reaches (T.Source.means source.now) self }
     {
         match self {
@@ -41,7 +64,8 @@ impl Edge {
         }
     }
 
-    fn weight<T: Source>(self, source: &T) -> Option<T::Span>
+    // Its weight on the hull; none where that end is missing.
+    pub fn weight<T: Source>(self, source: &T) -> Option<T::Span>
         ensures { result ≡ edge_weight T.Span.Span.kind (T.Source.means source.now) self }
     {
         let hull = Hull::over(source);
@@ -77,7 +101,7 @@ fn put_edge<T: Source>(
     ensures rest { Rest source.now.points matrix.old matrix.new }
 {
     let asked = source.get();
-    let at = place(source.points(), edge.from(asked), edge.to(asked));
+    let at = place(source.points(), edge.leaves(asked), edge.reaches(asked));
     improve(
         matrix,
         links,

@@ -19,6 +19,7 @@ mod relax;
 mod route;
 mod tightening;
 
+pub use edges::Edge;
 use tightening::tighten_lent;
 
 // Tightens the hulls of any source. Granted, the first n×n entries of the matrix are the least totals of routes, that of (i, j) at

@@ -36,6 +36,7 @@ fn relax_entry<S: Span>(
     improve(matrix, links, at, way, link);
 }
 
+// Kept as a clause, here and below: at most 48 points, so that the number of the middle point fits a link.
 // The entries of row i in the columns of `part`, where its entry to k is `front`; that of i itself is not among them.
 fn relax_part<S: Span>(
     matrix: &mut [Option<S>],
@@ -55,6 +56,7 @@ fn relax_part<S: Span>(
     let row = place(n, i, 0);
     let via = place(n, k, 0);
     let link = Link::Over(k as u8);
+    // Kept by its ends: `for j in part` was tried, and its invariant did not close.
     for j in part.start..part.end {
         relax_entry(matrix, links, row + j, front, via + j, link);
     }

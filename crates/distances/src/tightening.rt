@@ -23,14 +23,12 @@ fn tighten_checked<T: Source>(
 {
     let n = source.points();
     let mut links = [Link::Direct(0); MOST_ENTRIES];
-    match close(source, matrix, &mut links) {
-        Ok(()) => Ok(()),
-        Err(edge) => {
-            let ways = Ways { n, links: &links };
-            let edges = give_up(&ways, edge, matrix, cycle);
-            Err(Fault::Cycle(edges))
-        }
-    }
+    let Err(edge) = close(source, matrix, &mut links) else {
+        return Ok(());
+    };
+    let ways = Ways { n, links: &links };
+    let edges = give_up(&ways, edge, matrix, cycle);
+    Err(Fault::Cycle(edges))
 }
 
 // With the checks, for memory of the lengths that are lent.

@@ -57,6 +57,7 @@ pub fn check_granted<T: Source<Span = Minutes>>(
 }
 
 // The two points and the weight of the edge with this code, where there is one.
+// Kept beside `Edge`: a test that leaned on it would not see that a code is read wrongly.
 fn edge<T: Source>(source: &T, code: u16) -> Option<(usize, usize, T::Span)> {
     let k = (code / 2) as usize;
     if code % 2 == 1 {

@@ -33,7 +33,7 @@ impl Spelled for Minutes {
     }
 
     fn read(numbers: &[i64], at: usize) -> Minutes {
-        Minutes { count: numbers[at] }
+        Minutes::from(numbers[at])
     }
 
     fn write(self, numbers: &mut [i64], at: usize) {
@@ -51,12 +51,7 @@ impl Spelled for Pair<Minutes, Minutes> {
     }
 
     fn read(numbers: &[i64], at: usize) -> MinuteRank {
-        Pair {
-            first: Minutes { count: numbers[at] },
-            second: Minutes {
-                count: numbers[at + 1],
-            },
-        }
+        MinuteRank::from((numbers[at], numbers[at + 1]))
     }
 
     fn write(self, numbers: &mut [i64], at: usize) {

@@ -6,7 +6,7 @@ ghost use Rattle.layers.specs.Alike.{chosen_points};
 use crate::hull::EachHull;
 use crate::layer::{Layer, Rule};
 use crate::selected::Selection;
-use networks::Source;
+use networks::{MOST_CONDITIONS, Source};
 
 #[derive(Clone, Copy)]
 pub struct PartSelection {
@@ -18,7 +18,7 @@ pub type Chosen<T> = Layer<T, PartSelection>;
 
 impl<T: Source> Layer<T, PartSelection> {
     // A source made of another, with its windows selected below a place.
-    pub fn over(under: T, windows: [u8; 64], place: usize) -> Chosen<T>
+    pub fn over(under: T, windows: [u8; MOST_CONDITIONS], place: usize) -> Chosen<T>
         ensures { ⟦<Chosen<T> as Source>⟧.means result ≡ chosen (T.Source.means under) windows place }
     {
         let rule = PartSelection {

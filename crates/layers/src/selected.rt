@@ -5,20 +5,20 @@ ghost use Rattle.networks.specs.Selection.{selected};
 ghost use Rattle.layers.specs.Alike.{selected_points};
 
 use crate::layer::{Layer, Rule};
-use networks::Source;
+use networks::{MOST_CONDITIONS, Source};
 
 // Condition k keeps window number `windows[k]`; none where there is no such window, or k is 64 or more.
 // Kept as an array for the most conditions there can be: fixed memory, no heap.
 #[derive(Clone, Copy)]
 pub struct Selection {
-    pub(crate) windows: [u8; 64],
+    pub(crate) windows: [u8; MOST_CONDITIONS],
 }
 
 pub type Selected<T> = Layer<T, Selection>;
 
 impl<T: Source> Layer<T, Selection> {
     // A source made of a selection of another's windows.
-    pub fn over(under: T, windows: [u8; 64]) -> Selected<T>
+    pub fn over(under: T, windows: [u8; MOST_CONDITIONS]) -> Selected<T>
         ensures { ⟦<Selected<T> as Source>⟧.means result ≡ selected (T.Source.means under) windows }
     {
         let rule = Selection { windows };

@@ -5,8 +5,9 @@ use std::test::*;
 
 // The number and the detail of the text's refusal; none where it is read.
 pub fn refusal(text: &[u8]) -> Option<(usize, usize)> {
-    let fault = ListText::read(text).err()?;
-    Some((fault.number(), fault.detail()))
+    ListText::read(text)
+        .err()
+        .map(|fault| (fault.number(), fault.detail()))
 }
 
 // Whether each text is refused with just this place.

@@ -14,4 +14,4 @@ pub const MOST_CHOICES: usize = 6;
 pub const MOST_WINDOWS: usize = 4;
 
 // The greatest size of a window's end: 2^24.
-pub const LARGEST_END: u64 = 16777216;
+pub const LARGEST_END: u64 = 1 << 24;

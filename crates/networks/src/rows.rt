@@ -29,6 +29,7 @@ fn window_at<S: Span>(windows: &[Window<S>], w: usize) -> Window<S>
 }
 
 // The row of these windows, the first four of them in its room.
+// Kept apart from `new`: that its condition has just these windows is proved by hand here, and `new` needs no proof of its own.
 fn row_from<S: Span>(from: usize, to: usize, windows: &[Window<S>]) -> Row<S>
     ensures { MadeRow from to windows.now result }
 {

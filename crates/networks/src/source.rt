@@ -15,6 +15,7 @@ pub trait Source {
     fn conditions(&self) -> usize
         ensures { result ≡ length (means self.now).conditions };
 
+    // Kept as numbers, here and below, and not as Options: what is not there means a condition from point 0 to point 0 without windows.
     // The first point of condition k; 0 where there is no such condition.
     fn from(&self, k: usize) -> usize
         ensures { result ≡ (condition_at (means self.now) k).from };

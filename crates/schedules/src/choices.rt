@@ -26,6 +26,7 @@ fn choice_after<T: Source>(source: &LegalSource<T>, place: Option<usize>) -> Opt
 }
 
 // The places of the choice conditions, of which there are at most six.
+// Kept as six lines: each step starts behind the place before it, which `from_fn` would hold in a closure that changes.
 pub(crate) fn choice_places<T: Source>(source: &LegalSource<T>) -> [Option<usize>; 6]
     ensures { ChoicePlaces source.now result }
 {

@@ -7,7 +7,7 @@ ghost use Rattle.schedules.specs.Choosing.{place_of, ChoicePlaces, Turns, Chosen
 
 use distances::inner::{LegalSource, Link, close};
 use layers::Chosen;
-use networks::Source;
+use networks::{MOST_CONDITIONS, Source};
 use spans::Span;
 
 // Window w at place l of the choice conditions: the numbers chosen with it, and the matrix closed for them; or none, where that admits no
@@ -17,10 +17,10 @@ pub(crate) fn descend<T: Source>(
     places: [Option<usize>; 6],
     l: usize,
     w: usize,
-    windows: [u8; 64],
+    windows: [u8; MOST_CONDITIONS],
     matrix: &mut [Option<T::Span>],
     links: &mut [Link],
-) -> Option<[u8; 64]>
+) -> Option<[u8; MOST_CONDITIONS]>
     requires room { (source.now.points * source.now.points ≤ length matrix.old) × (source.now.points * source.now.points ≤ length links.old) }
     requires places { (ChoicePlaces source.now places) × (l < 6) }
     requires upto { ChosenUpto source.now windows (place_of source.now places l) }
@@ -37,6 +37,7 @@ pub(crate) fn descend<T: Source>(
     let mut chosen = windows;
     chosen[place] = w as u8;
     let part = Chosen::over(asked, chosen, place + 1);
+    // Kept as a match: `ok()?` was tried, and what its None says of `close` stayed open.
     match close(&LegalSource::new(&part), matrix, links) {
         Ok(()) => Some(chosen),
         Err(_) => None,

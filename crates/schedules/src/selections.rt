@@ -10,26 +10,27 @@ ghost use Rattle.schedules.specs.Choosing.{ChoicePlaces, FoundFirst};
 use crate::choices::turns;
 use crate::descent::descend;
 use distances::inner::{LegalSource, Link};
-use networks::Source;
+use networks::{MOST_CONDITIONS, Source};
 use spans::Span;
 
 // The first window of each condition.
-fn first_windows() -> [u8; 64]
+fn first_windows() -> [u8; MOST_CONDITIONS]
     ensures long { length result ≡ 64 }
     ensures zeros { (k : ℕ) → slice_index result k ≡ 0 }
 {
-    [0u8; 64]
+    [0u8; MOST_CONDITIONS]
 }
 
 // Each level chooses a window at the place of one choice condition, closes the matrix for what is chosen so far with the hulls of the
 // rest, and passes over all that goes on from it where that admits no plan. Levels past the last choice condition have one turn.
-// Kept as six loops left by a label, with windows in fixed memory: a rule of the project, no recursion and no heap.
+// Kept as six loops left by a label: a level for each of at most six choice conditions; a recursion would carry the level, what is chosen and
+// both tables through a contract of its own, and is no plainer. The windows are an array: fixed memory, no heap.
 pub(crate) fn first_selection<T: Source>(
     source: &LegalSource<T>,
     places: [Option<usize>; 6],
     matrix: &mut [Option<T::Span>],
     links: &mut [Link],
-) -> Option<[u8; 64]>
+) -> Option<[u8; MOST_CONDITIONS]>
     requires room { (source.now.points * source.now.points ≤ length matrix.old) × (source.now.points * source.now.points ≤ length links.old) }
     requires places { ChoicePlaces source.now places }
     requires closed { Closes T.Span.Span.kind (hulls source.now) matrix.old }

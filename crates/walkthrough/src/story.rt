@@ -8,7 +8,7 @@ use crate::words::{Refused, in_minutes};
 use checks::check;
 use layers::{Hull, Selected};
 use list_text::ListText;
-use networks::{Fault, Lent, MOST_ENTRIES, MOST_POINTS, Row, Rows, Source, Window};
+use networks::{MOST_CONDITIONS, Fault, Lent, MOST_ENTRIES, MOST_POINTS, Row, Rows, Source, Window};
 use spans::Minutes;
 use std::io;
 
@@ -106,7 +106,7 @@ fn tell_job<T: Source<Span = Minutes>>(rt: &HostRuntime, job: &T) -> io::Result<
 }
 
 fn tell_selection<T: Source<Span = Minutes>>(rt: &HostRuntime, job: &T, gap: u8) -> io::Result<()> {
-    let mut windows = [0u8; 64];
+    let mut windows = [0u8; MOST_CONDITIONS];
     windows[0] = gap;
     let selected = Selected::over(job, windows);
     println!(rt;

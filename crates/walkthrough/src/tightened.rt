@@ -2,7 +2,7 @@
 use crate::job::{BRAKE_CHANGE, POINTS, point_name};
 use crate::story::{hull_of, tell_condition, tell_fault};
 use crate::words::{Refused, in_hours};
-use distances::tighten;
+use distances::{Edge, tighten};
 use list_text::ListText;
 use networks::{Fault, Row, Rows, Source, Window};
 use spans::{Minutes, Span};
@@ -81,17 +81,6 @@ fn tell_narrowed<T: Source<Span = Minutes>>(
     Ok(())
 }
 
-// The two points and the weight of the edge with this code, where there is one.
-fn edge_of<T: Source<Span = Minutes>>(job: &T, code: u16) -> Option<(usize, usize, Minutes)> {
-    let k = (code / 2) as usize;
-    let hull = hull_of(job, k);
-    if code % 2 == 0 {
-        Some((job.from(k), job.to(k), hull.high?))
-    } else {
-        Some((job.to(k), job.from(k), hull.low?.opposite()?))
-    }
-}
-
 // What an edge means: its second point comes at most so many minutes after its first.
 fn tell_bound(rt: &HostRuntime, from: &str, to: &str, weight: i64) -> io::Result<()> {
     if weight < 0 {
@@ -111,10 +100,11 @@ fn tell_cycle<T: Source<Span = Minutes>>(
     let mut total = Minutes::zero();
     let mut end = "";
     for code in codes {
-        if let Some((i, j, weight)) = edge_of(job, *code) {
-            let k = code / 2;
-            let from = point_name(i);
-            let to = point_name(j);
+        let edge = Edge::from(*code);
+        if let Some(weight) = edge.weight(job) {
+            let k = edge.condition();
+            let from = point_name(edge.leaves(job));
+            let to = point_name(edge.reaches(job));
             let count = weight.count;
             println!(rt; "  condition {k}, from '{from}' to '{to}': {count}")?;
             tell_bound(rt, from, to, count)?;
@@ -150,8 +140,8 @@ fn tell_refused<T: Source<Span = Minutes>>(
 
 // The hulls of a job, tightened.
 fn tell_tightened<T: Source<Span = Minutes>>(rt: &HostRuntime, job: &T) -> io::Result<()> {
-    let mut matrix = [None; 49];
-    let mut cycle = [0; 7];
+    let mut matrix = [None; POINTS * POINTS];
+    let mut cycle = [0; POINTS];
     match tighten(job, &mut matrix, &mut cycle) {
         Ok(()) => {
             tell_table(rt, &matrix)?;

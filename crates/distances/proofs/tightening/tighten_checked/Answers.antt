@@ -20,8 +20,8 @@ give_up-edges-requires g c =
       fits = λ cs ps x. omega (arith, no.closing.few cs ps x);
     }
 
-pub returns-in-Err : goal.returns-in-Err
-returns-in-Err g c =
+pub returns : goal.returns
+returns g c =
     let N = c.args.source.now in
     let n = c.points-n.result in
     let K = g.T.Span.Span.kind in
