@@ -1,5 +1,5 @@
 -- What is chosen with the window goes on, or rules the window out. Assumes nothing.
-use Rattle.std.proofs.Common.{◌≡◌, ℕ, ◌+◌, ◌≤◌, length, set, Some, None, Option, unwrap_or, suc, sym, refl, ap, subst, ◌∙◌, arith}
+use Rattle.std.proofs.Common.{◌≡◌, ℕ, ◌+◌, ◌≤◌, List, length, set, Some, None, Option, unwrap_or, suc, sym, refl, ap, subst, ◌∙◌, arith}
 use Rattle.networks.specs.Network.{Network}
 use Rattle.networks.specs.Hull.{hulls}
 use Rattle.networks.specs.Plan.{HasPlan}
@@ -14,6 +14,10 @@ use Rattle.schedules.proofs.descent.descend.Goals as goal
 past_all : (o : Option ℕ) (n : ℕ) → ((x : ℕ) → o ≡ Some x → ⊥) → n ≤ unwrap_or o n
 past_all None n none = omega arith
 past_all (Some x) n none = absurd (none x refl)
+
+-- the part selection over what a source means
+over_part : {S : Type 0} {L M N : Network S} (ws : List ℕ) (place : ℕ) → L ≡ chosen M ws place → M ≡ N → L ≡ chosen N ws place
+over_part ws place is same = is ∙ ap (λ M. chosen M ws place) same
 
 pub returns-in_default-clause-goes : goal.returns-in_default-clause-goes
 returns-in_default-clause-goes g c =
@@ -36,7 +40,7 @@ new-requires g c =
     let P = place_of N c.args.places c.args.l in
     let is = place_is N c.args.places c.requires.places.0 c.args.l c.in-Some.place c.in-Some.is in
     let here = place_there N c.args.places c.requires.places.0 c.args.l c.in-Some.place c.in-Some.is in
-    subst (Legal K) (sym (c.over-part.ensures ∙ ap (λ (M : Network g.row.T-Span.Denot). chosen M (set c.args.windows c.in-Some.place c.args.w) (c.in-Some.place + 1)) c.get-asked.ensures.means))
+    subst (Legal K) (sym (over_part (set c.args.windows c.in-Some.place c.args.w) (c.in-Some.place + 1) c.over-part.ensures c.get-asked.ensures.means))
     (subst (λ (i : ℕ). Legal K (chosen N (set c.args.windows i c.args.w) (i + 1))) is
     (legal_with N _ _ _ c.requires.upto c.requires.turn here g.met.T.Span.Span.lawful c.get-asked.ensures.legal))
 
@@ -49,7 +53,7 @@ returns-in-Ok g c =
     let ws = c.args.windows in
     let w = c.args.w in
     let matrix = c.close.new.matrix in
-    let over = c.new.ensures ∙ c.over-part.ensures ∙ ap (λ (M : Network g.row.T-Span.Denot). chosen M (set c.args.windows c.in-Some.place c.args.w) (c.in-Some.place + 1)) c.get-asked.ensures.means in
+    let over = c.new.ensures ∙ over_part (set ws c.in-Some.place w) (c.in-Some.place + 1) c.over-part.ensures c.get-asked.ensures.means in
     let is = place_is N c.args.places c.requires.places.0 c.args.l c.in-Some.place c.in-Some.is in
     let here = place_there N c.args.places c.requires.places.0 c.args.l c.in-Some.place c.in-Some.is in
     let closes = subst (λ (M : Network g.row.T-Span.Denot). Closes K M matrix) over c.in-Ok.ensures.ends in
@@ -68,7 +72,7 @@ returns-in-Err g c =
     let ws = c.args.windows in
     let w = c.args.w in
     let matrix = c.close.new.matrix in
-    let over = c.new.ensures ∙ c.over-part.ensures ∙ ap (λ (M : Network g.row.T-Span.Denot). chosen M (set c.args.windows c.in-Some.place c.args.w) (c.in-Some.place + 1)) c.get-asked.ensures.means in
+    let over = c.new.ensures ∙ over_part (set ws c.in-Some.place w) (c.in-Some.place + 1) c.over-part.ensures c.get-asked.ensures.means in
     let is = place_is N c.args.places c.requires.places.0 c.args.l c.in-Some.place c.in-Some.is in
     let here = place_there N c.args.places c.requires.places.0 c.args.l c.in-Some.place c.in-Some.is in
     let none = subst (λ (M : Network g.row.T-Span.Denot). HasPlan K (hulls M) → ⊥) over c.in-Err.ensures.ends.no_plan in
