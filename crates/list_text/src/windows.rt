@@ -49,7 +49,7 @@ impl<'a> Reader<'a> {
         let p = x.after.expect(Mark::Open)?;
         let (count, q) = p.integer()?;
         let after = q.expect(Mark::Close)?;
-        Ok((Some(Minutes::from(count)), after))
+        Ok((Some(Minutes { count }), after))
     }
 
     // A window behind its first bracket.

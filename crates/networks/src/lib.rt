@@ -10,7 +10,9 @@ mod window;
 
 pub use fault::Fault;
 pub use lent::Lent;
-pub use limits::{LARGEST_END, MOST_CHOICES, MOST_CONDITIONS, MOST_ENTRIES, MOST_POINTS, MOST_WINDOWS};
+pub use limits::{
+    LARGEST_END, MOST_CHOICES, MOST_CONDITIONS, MOST_ENTRIES, MOST_POINTS, MOST_WINDOWS,
+};
 pub use rows::{Row, Rows};
 pub use source::{Source, by_reference};
 pub use window::Window;

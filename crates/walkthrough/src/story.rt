@@ -8,7 +8,9 @@ use crate::words::{Refused, in_minutes};
 use checks::check;
 use layers::{Hull, Selected};
 use list_text::ListText;
-use networks::{MOST_CONDITIONS, Fault, Lent, MOST_ENTRIES, MOST_POINTS, Row, Rows, Source, Window};
+use networks::{
+    Fault, Lent, MOST_CONDITIONS, MOST_ENTRIES, MOST_POINTS, Row, Rows, Source, Window,
+};
 use spans::Minutes;
 use std::io;
 
