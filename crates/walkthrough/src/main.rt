@@ -3,15 +3,16 @@
 
 mod job;
 mod story;
-// Distances of the job, which main does not tell yet.
 mod tightened;
 mod words;
 
 use std::io;
 use story::{tell_brake_change, tell_checks, tell_texts};
+use tightened::tell_distances;
 
 fn main(rt: HostRuntime) -> io::Result<()> {
     tell_brake_change(&rt)?;
+    tell_distances(&rt)?;
     tell_texts(&rt)?;
     tell_checks(&rt)
 }
