@@ -19,3 +19,4 @@ mod Unfoldings
 mod Searching
 pub mod Endings
 mod Contradictions
+pub mod Routes
