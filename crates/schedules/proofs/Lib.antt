@@ -6,3 +6,4 @@ mod Levels
 mod Placing
 mod Descending
 mod Solves
+mod OneAnswer

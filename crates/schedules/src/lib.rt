@@ -1,7 +1,7 @@
 // Schedules: dates that meet all conditions of a source, and how far apart two points can be.
 #![tactic(auto)]
 
-ghost use Rattle.schedules.specs.Solving.{Solves};
+ghost use Rattle.schedules.specs.Solving.{Solves, SolvesOnce};
 
 use networks::{Fault, Lent, Source};
 use spans::Span;
@@ -23,6 +23,7 @@ pub fn solve<T: Source>(
     dates: &mut [T::Span],
 ) -> Result<(), Fault>
     ensures solved { Solves T.Span.Span.kind (T.Source.means source.now) matrix.old cycle.old dates.old result matrix.new cycle.new dates.new }
+    ensures once { SolvesOnce T.Span.Span.kind }
 {
     let lent = Lent {
         matrix: matrix.len(),
