@@ -5,3 +5,4 @@ pub mod Firsts
 mod Levels
 mod Placing
 mod Descending
+pub mod Adding
