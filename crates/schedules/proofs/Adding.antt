@@ -76,7 +76,7 @@ module _ {S : Type 0} {K : Kind S} (laws : Laws S K) (d : Table S) (i j : ℕ) (
 
   module _ (b : ℕ) (room : 8 * b ≤ reach) (small : Small K d b) (light : K.size w ≤ b) (closed : Closed K d) (free : Free K d i j w)
       (e : Table S) (added : Added K d i j w e) where
-    old_at_most : (p q : ℕ) (s : S) → AtMost K (d p q) s → AtMost K (e p q) s
+    pub old_at_most : (p q : ℕ) (s : S) → AtMost K (d p q) s → AtMost K (e p q) s
     old_at_most p q s h =
         let (g, k, low) = is_there laws (d p q) s h in
         at_most_up laws (e p q) g s (added.old p q g k) low

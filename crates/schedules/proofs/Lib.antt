@@ -6,3 +6,4 @@ mod Levels
 mod Placing
 mod Descending
 pub mod Adding
+pub mod Between

@@ -1,0 +1,144 @@
+-- A distance between two points that the entries both ways allow occurs in some plan of the hulls, and no other does. Assumes nothing.
+use Rattle.std.proofs.Common.{◌≡◌, ℕ, ◌+◌, ◌*◌, ◌<◌, ◌≤◌, List, Some, None, Option, sym, refl, ap, ◌∙◌, subst, inl, inr, mul-le-mul_right, arith}
+use Rattle.spans.specs.Kind.{Kind, Laws, reach, ◌≤⟨◌⟩◌}
+use Rattle.spans.specs.Sums.{◌⊕⟨◌⟩◌, ⊖⟨◌⟩◌}
+use Rattle.spans.specs.Order.{le_of_eq, le_trans, le_antisym}
+use Rattle.spans.proofs.Group.{sum_some, sum_size, comm, opposite_some, opposite_size, opposite_opposite, inverse_left, le_plus_left, plus_minus, take_away}
+use Rattle.networks.specs.Limits.{largest_date, largest_distance}
+use Rattle.networks.specs.Network.{Network}
+use Rattle.networks.specs.Hull.{hulls}
+use Rattle.networks.specs.Plan.{date, Plan}
+use Rattle.networks.specs.Legal.{Legal}
+use Rattle.distances.specs.Limits.{largest_total}
+use Rattle.distances.specs.Graph.{Edge}
+use Rattle.distances.specs.DateRule.{ByDateRule}
+use Rattle.distances.specs.Table.{Table, AtMost, Done}
+use Rattle.distances.proofs.Tables.{is_there, at_most_up}
+use Rattle.distances.proofs.Plans.{KeepsEdges, keeping_plan}
+use Rattle.distances.proofs.Dating.{rule_keeps, rule_exists, first_zero}
+use Rattle.distances.proofs.Deciding.{sound}
+use Rattle.schedules.specs.Range.{ApartBy}
+use Rattle.schedules.proofs.Adding.{Added, Free, an_added, edge_kept, edge_entry, added_done, old_at_most}
+
+-- one step further than a range tells
+abbrev pub furthest : ℕ
+furthest = largest_distance + 1
+
+pub done_wider : {S : Type 0} (K : Kind S) (n b c : ℕ) (d : Table S) → b ≤ c → Done K n b d → Done K n c d
+done_wider K n b c d h done = record {
+  inside = done.inside;
+  diagonal = done.diagonal;
+  small = λ i j a e. omega (arith, done.small i j a e);
+  closed = done.closed;
+}
+
+module _ {S : Type 0} {K : Kind S} (laws : Laws S K) where
+  -- dates where j comes right at i plus s
+  pub apart_by : (dates : List S) (i j : ℕ) (s : S) → K.size (date K dates i) ≤ largest_date → K.size s ≤ furthest
+      → date K dates j ≡ date K dates i ⊕⟨ K ⟩ s → ApartBy K dates i j s
+  apart_by dates i j s zi zs e =
+      let x = date K dates i in
+      let zo = opposite_size laws x in
+      let zj : K.size (date K dates j) ≤ K.size x + K.size s = omega (arith, ap K.size e, sum_size laws x s) in (
+        ⊖⟨ K ⟩ x,
+        opposite_some laws x (omega arith),
+        sum_some laws (date K dates j) (⊖⟨ K ⟩ x) (omega arith)
+            ∙ ap (λ (o : S). Some (o ⊕⟨ K ⟩ (⊖⟨ K ⟩ x))) (e ∙ comm laws x s (omega arith))
+            ∙ ap (λ (o : S). Some o) (plus_minus laws s x (omega arith)),
+      )
+
+  -- neither later than i plus s nor earlier
+  met : (x y s : S) → K.size x ≤ largest_date → K.size y ≤ largest_date → K.size s ≤ furthest
+      → y ≤⟨ K ⟩ (x ⊕⟨ K ⟩ s) → x ≤⟨ K ⟩ (y ⊕⟨ K ⟩ (⊖⟨ K ⟩ s)) → y ≡ x ⊕⟨ K ⟩ s
+  met x y s zx zy zs high low =
+      let zo = opposite_size laws s in
+      le_antisym laws high
+      (rw (opposite_opposite laws s (omega arith)) at (take_away laws x y (⊖⟨ K ⟩ s) (omega arith) low))
+
+-- ---- dates by the rule on a table that no edge is below are a plan, whatever the bound of its entries
+module _ {S : Type 0} {K : Kind S} (laws : Laws S K) (N : Network S) (legal : Legal K N) (b : ℕ) (d : Table S) (done : Done K N.points b d)
+    (room : 8 * (N.points * b) ≤ reach) (near : N.points * b ≤ largest_date)
+    (below : (c i j : ℕ) (a : S) → Edge K N c i j a → AtMost K (d i j) a) where
+  ruled_far : (dates : List S) → ByDateRule K d dates N.points → Plan K (hulls N) dates
+  ruled_far dates rule =
+      keeping_plan laws N legal dates rule.one_each (first_zero laws d N.points b done room dates rule legal.some_point) small keeps
+    where
+      small : (p : ℕ) → p < N.points → K.size (date K dates p) ≤ largest_date
+      small p l = omega (arith, (rule_keeps laws d N.points b done room dates rule).0 p l, mul-le-mul_right {m = p} {n = N.points} b (omega arith))
+
+      keeps : KeepsEdges laws N legal (date K dates)
+      keeps c i j a e =
+          let (li, lj) = (sound laws N legal).inside c i j a e in
+          let (g, x, h) = is_there laws (d i j) a (below c i j a e) in
+          let za = (sound laws N legal).light c i j a e in
+          let zg = done.small i j g x in
+          let zi = small i li in
+          let wide : b ≤ N.points * b = omega (arith, mul-le-mul_right {m = 1} {n = N.points} b legal.some_point) in
+          le_trans laws ((rule_keeps laws d N.points b done room dates rule).1 i j g li lj x)
+          (le_plus_left laws g a (date K dates i) (omega arith) (omega arith) h)
+
+-- ---- the table with an edge each way, of weight s and its opposite
+module _ {S : Type 0} {K : Kind S} (laws : Laws S K) (N : Network S) (legal : Legal K N) (d : Table S) (done : Done K N.points largest_total d)
+    (below : (c i j : ℕ) (a : S) → Edge K N c i j a → AtMost K (d i j) a) (i j : ℕ) (li : i < N.points) (lj : j < N.points)
+    (s : S) (small : K.size s ≤ furthest) (low : Free K d i j s) (high : (a : S) → d i j ≡ Some a → s ≤⟨ K ⟩ a) where
+  wider : Done K N.points furthest d
+  wider = done_wider K N.points largest_total furthest d (omega arith) done
+
+  module _ (e : Table S) (one : Added K d i j s e) where
+    one_done : Done K N.points (3 * furthest) e
+    one_done = added_done laws d i j s N.points furthest (omega arith) small wider li lj low e one
+
+    -- the way back is free too, since s is not above the entry
+    free_back : Free K e j i (⊖⟨ K ⟩ s)
+    free_back c x =
+        let zo = opposite_size laws s in
+        let zc = one_done.small i j c x in
+        let least : s ≤⟨ K ⟩ c = elim (edge_entry laws d i j s furthest (omega arith) wider.small small wider.closed low e one (wider.diagonal i li) (wider.diagonal j lj) c x) [
+          | inl h ↦ high c h
+          | inr h ↦ le_of_eq laws (sym h)
+        ] in
+        rw (inverse_left laws s (omega arith)) at (le_plus_left laws s c (⊖⟨ K ⟩ s) (omega arith) (omega arith) least)
+
+    module _ (f : Table S) (both : Added K e j i (⊖⟨ K ⟩ s) f) where
+      light : K.size (⊖⟨ K ⟩ s) ≤ 3 * furthest
+      light = omega (arith, opposite_size laws s)
+
+      both_done : Done K N.points (3 * (3 * furthest)) f
+      both_done = added_done laws e j i (⊖⟨ K ⟩ s) N.points (3 * furthest) (omega arith) light one_done lj li free_back f both
+
+      down : (p q : ℕ) (a : S) → AtMost K (e p q) a → AtMost K (f p q) a
+      down p q a = old_at_most laws e j i (⊖⟨ K ⟩ s) (3 * furthest) (omega arith) one_done.small light one_done.closed free_back f both p q a
+
+      far_room : 8 * (N.points * (3 * (3 * furthest))) ≤ reach
+      far_room = omega (arith, legal.few_points)
+
+      -- an entry that is not above a is kept, so j comes at most a after i
+      entry_kept : (dates : List S) → ByDateRule K f dates N.points → ((p : ℕ) → p < N.points → K.size (date K dates p) ≤ largest_date)
+          → (p q : ℕ) (a : S) → p < N.points → q < N.points → K.size a ≤ 3 * furthest → AtMost K (f p q) a
+          → date K dates q ≤⟨ K ⟩ (date K dates p ⊕⟨ K ⟩ a)
+      entry_kept dates rule near p q a lp lq za h =
+          let (g, x, low) = is_there laws (f p q) a h in
+          let zg = both_done.small p q g x in
+          let zp = near p lp in
+          le_trans laws ((rule_keeps laws f N.points (3 * (3 * furthest)) both_done far_room dates rule).1 p q g lp lq x)
+          (le_plus_left laws g a (date K dates p) (omega arith) (omega arith) low)
+
+      dated_apart : (dates : List S) × Plan K (hulls N) dates × ApartBy K dates i j s
+      dated_apart =
+          let (dates, rule) = rule_exists laws f N.points (3 * (3 * furthest)) both_done far_room in
+          let plan = ruled_far laws N legal (3 * (3 * furthest)) f both_done far_room (omega (arith, legal.few_points))
+          (λ c p q a x. down p q a (old_at_most laws d i j s furthest (omega arith) wider.small small wider.closed low e one p q a (below c p q a x))) dates rule in
+          let ahead = entry_kept dates rule plan.in_reach i j s li lj (omega arith)
+          (down i j s (edge_kept laws d i j s furthest (omega arith) wider.small small wider.closed low e one (wider.diagonal i li) (wider.diagonal j lj))) in
+          let back = entry_kept dates rule plan.in_reach j i (⊖⟨ K ⟩ s) lj li light
+          (edge_kept laws e j i (⊖⟨ K ⟩ s) (3 * furthest) (omega arith) one_done.small light one_done.closed free_back f both (one_done.diagonal j lj) (one_done.diagonal i li)) in
+          let zi = plan.in_reach i li in
+          let zj = plan.in_reach j lj in
+          (dates, plan, apart_by laws dates i j s zi small (met laws (date K dates i) (date K dates j) s zi zj small ahead back))
+
+  -- every distance that the table allows occurs
+  pub table_allows : (dates : List S) × Plan K (hulls N) dates × ApartBy K dates i j s
+  table_allows =
+      let (e, one) = an_added laws d i j s in
+      let (f, both) = an_added laws e j i (⊖⟨ K ⟩ s) in
+      dated_apart e one f both
