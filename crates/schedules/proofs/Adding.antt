@@ -74,37 +74,39 @@ module _ {S : Type 0} {K : Kind S} (laws : Laws S K) (d : Table S) (i j : ℕ) (
       new : (a b : ℕ) (x y : S) → d a i ≡ Some x → d j b ≡ Some y → AtMost K (z a b).0 (x ⊕⟨ K ⟩ (w ⊕⟨ K ⟩ y))
       new a b x y e f = (z a b).1.second (x ⊕⟨ K ⟩ (w ⊕⟨ K ⟩ y)) (rw (e, f) refl)
 
-  module _ (b : ℕ) (room : 8 * b ≤ reach) (small : Small K d b) (light : K.size w ≤ b) (closed : Closed K d) (free : Free K d i j w)
-      (e : Table S) (added : Added K d i j w e) where
+  module _ (e : Table S) (added : Added K d i j w e) where
+    -- no entry is above what it was
     pub old_at_most : (p q : ℕ) (s : S) → AtMost K (d p q) s → AtMost K (e p q) s
     old_at_most p q s h =
         let (g, k, low) = is_there laws (d p q) s h in
         at_most_up laws (e p q) g s (added.old p q g k) low
 
-    pub added_small : Small K e (3 * b)
+  module _ (n b : ℕ) (room : 8 * b ≤ reach) (light : K.size w ≤ b) (done : Done K n b d) (li : i < n) (lj : j < n) (free : Free K d i j w)
+      (e : Table S) (added : Added K d i j w e) where
+    added_small : Small K e (3 * b)
     added_small p q s k = elim (added.goes p q s k) [
-      | inl h ↦ omega (arith, small p q s h)
-      | inr (x, y, h, g, adds) ↦ omega (arith, small p i x h, small j q y g, sum_size laws w y, sum_size laws x (w ⊕⟨ K ⟩ y), ap K.size adds)
+      | inl h ↦ omega (arith, done.small p q s h)
+      | inr (x, y, h, g, adds) ↦ omega (arith, done.small p i x h, done.small j q y g, sum_size laws w y, sum_size laws x (w ⊕⟨ K ⟩ y), ap K.size adds)
     ]
 
     -- the edge, and what leads from its end back to its start, is not below zero
     round : (m : ℕ) (y u : S) → d j m ≡ Some y → d m i ≡ Some u → K.zero ≤⟨ K ⟩ (w ⊕⟨ K ⟩ (y ⊕⟨ K ⟩ u))
     round m y u f g =
-        let (o, k, low) = is_there laws (d j i) (y ⊕⟨ K ⟩ u) (closed j m i y u f g) in
-        let zo = small j i o k in
-        let zy = small j m y f in
-        let zu = small m i u g in
+        let (o, k, low) = is_there laws (d j i) (y ⊕⟨ K ⟩ u) (done.closed j m i y u f g) in
+        let zo = done.small j i o k in
+        let zy = done.small j m y f in
+        let zu = done.small m i u g in
         let zyu = sum_size laws y u in
         le_trans laws (free o k) (le_plus_left laws o (y ⊕⟨ K ⟩ u) w (omega arith) (omega arith) low)
 
     joins : (p m q : ℕ) (s t : S) → Goes K d i j w p m s → Goes K d i j w m q t → AtMost K (e p q) (s ⊕⟨ K ⟩ t)
-    joins p m q s t (inl h) (inl g) = old_at_most p q (s ⊕⟨ K ⟩ t) (closed p m q s t h g)
+    joins p m q s t (inl h) (inl g) = old_at_most e added p q (s ⊕⟨ K ⟩ t) (done.closed p m q s t h g)
     joins p m q s t (inr (x, y, h, f, adds)) (inl g) =
-        let (o, k, low) = is_there laws (d j q) (y ⊕⟨ K ⟩ t) (closed j m q y t f g) in
-        let zx = small p i x h in
-        let zy = small j m y f in
-        let zt = small m q t g in
-        let zo = small j q o k in
+        let (o, k, low) = is_there laws (d j q) (y ⊕⟨ K ⟩ t) (done.closed j m q y t f g) in
+        let zx = done.small p i x h in
+        let zy = done.small j m y f in
+        let zt = done.small m q t g in
+        let zo = done.small j q o k in
         let zyt = sum_size laws y t in
         let zwo = sum_size laws w o in
         let zwy = sum_size laws w y in
@@ -115,11 +117,11 @@ module _ {S : Type 0} {K : Kind S} (laws : Laws S K) (d : Table S) (i j : ℕ) (
         at_most_up laws (e p q) (x ⊕⟨ K ⟩ (w ⊕⟨ K ⟩ o)) (s ⊕⟨ K ⟩ t) (added.new p q x o h k)
         (rw (adds, assoc laws x (w ⊕⟨ K ⟩ y) t (omega arith), assoc laws w y t (omega arith)) more)
     joins p m q s t (inl h) (inr (u, v, g, f, adds)) =
-        let (o, k, low) = is_there laws (d p i) (s ⊕⟨ K ⟩ u) (closed p m i s u h g) in
-        let zs = small p m s h in
-        let zu = small m i u g in
-        let zv = small j q v f in
-        let zo = small p i o k in
+        let (o, k, low) = is_there laws (d p i) (s ⊕⟨ K ⟩ u) (done.closed p m i s u h g) in
+        let zs = done.small p m s h in
+        let zu = done.small m i u g in
+        let zv = done.small j q v f in
+        let zo = done.small p i o k in
         let zsu = sum_size laws s u in
         let zwv = sum_size laws w v in
         let more : (o ⊕⟨ K ⟩ (w ⊕⟨ K ⟩ v)) ≤⟨ K ⟩ ((s ⊕⟨ K ⟩ u) ⊕⟨ K ⟩ (w ⊕⟨ K ⟩ v)) =
@@ -127,10 +129,10 @@ module _ {S : Type 0} {K : Kind S} (laws : Laws S K) (d : Table S) (i j : ℕ) (
         at_most_up laws (e p q) (o ⊕⟨ K ⟩ (w ⊕⟨ K ⟩ v)) (s ⊕⟨ K ⟩ t) (added.new p q o v k f)
         (rw (adds, ← assoc laws s u (w ⊕⟨ K ⟩ v) (omega arith)) more)
     joins p m q s t (inr (x, y, h, f, adds)) (inr (u, v, g, k, sums)) =
-        let zx = small p i x h in
-        let zy = small j m y f in
-        let zu = small m i u g in
-        let zv = small j q v k in
+        let zx = done.small p i x h in
+        let zy = done.small j m y f in
+        let zu = done.small m i u g in
+        let zv = done.small j q v k in
         let zyu = sum_size laws y u in
         let zwv = sum_size laws w v in
         let zwy = sum_size laws w y in
@@ -148,46 +150,49 @@ module _ {S : Type 0} {K : Kind S} (laws : Laws S K) (d : Table S) (i j : ℕ) (
         at_most_up laws (e p q) (x ⊕⟨ K ⟩ (w ⊕⟨ K ⟩ v)) (s ⊕⟨ K ⟩ t) (added.new p q x v h k)
         (subst (λ (o : S). (x ⊕⟨ K ⟩ (w ⊕⟨ K ⟩ v)) ≤⟨ K ⟩ o) (sym regroup) more)
 
-    pub added_closed : Closed K e
+    added_closed : Closed K e
     added_closed p m q s t h g = joins p m q s t (added.goes p m s h) (added.goes m q t g)
 
-    added_zero : (p : ℕ) → d p p ≡ Some K.zero → e p p ≡ Some K.zero
-    added_zero p here =
-        let (g, k, low) = is_there laws (e p p) K.zero (added.old p p K.zero here) in
+    added_zero : (p : ℕ) → p < n → e p p ≡ Some K.zero
+    added_zero p l =
+        let (g, k, low) = is_there laws (e p p) K.zero (added.old p p K.zero (done.diagonal p l)) in
         k ∙ ap (λ (o : S). Some o) (le_antisym laws low (high g (added.goes p p g k)))
       where
         high : (g : S) → Goes K d i j w p p g → K.zero ≤⟨ K ⟩ g
-        high g (inl h) = let same : K.zero ≡ g = cc in subst (λ (o : S). K.zero ≤⟨ K ⟩ o) same (le_refl laws)
+        high g (inl h) = let here = done.diagonal p l in let same : K.zero ≡ g = cc in subst (λ (o : S). K.zero ≤⟨ K ⟩ o) same (le_refl laws)
         high g (inr (x, y, h, f, adds)) =
-            let zx = small p i x h in
-            let zy = small j p y f in
+            let zx = done.small p i x h in
+            let zy = done.small j p y f in
             let zwy = sum_size laws w y in
             rw (adds, comm laws x (w ⊕⟨ K ⟩ y) (omega arith), assoc laws w y x (omega arith)) (round p y x f h)
 
-    -- the edge is kept, and the entry from i to j is no other than it was or the edge
-    pub edge_kept : d i i ≡ Some K.zero → d j j ≡ Some K.zero → AtMost K (e i j) w
-    edge_kept h g =
-        let zz = laws.zero_size in
-        rw (zero_right laws w (omega arith), zero_left laws w (omega arith)) at (added.new i j K.zero K.zero h g)
+    pub added_done : Done K n (3 * b) e
+    added_done = record {
+      inside = λ p q s k. elim (added.goes p q s k) [
+        | inl h ↦ done.inside p q s h
+        | inr (x, y, h, g, adds) ↦ ((done.inside p i x h).0, (done.inside j q y g).1)
+      ];
+      diagonal = added_zero;
+      small = added_small;
+      closed = added_closed;
+    }
 
-    pub edge_entry : d i i ≡ Some K.zero → d j j ≡ Some K.zero → (s : S) → e i j ≡ Some s → (d i j ≡ Some s) ⊎ (s ≡ w)
-    edge_entry h g s k = elim (added.goes i j s k) [
+    -- the edge is kept
+    pub edge_kept : AtMost K (e i j) w
+    edge_kept =
+        let zz = laws.zero_size in
+        rw (zero_right laws w (omega arith), zero_left laws w (omega arith)) at
+        (added.new i j K.zero K.zero (done.diagonal i li) (done.diagonal j lj))
+
+    -- and its entry is no other than it was or the edge
+    pub edge_entry : (s : S) → e i j ≡ Some s → (d i j ≡ Some s) ⊎ (s ≡ w)
+    edge_entry s k = elim (added.goes i j s k) [
       | inl o ↦ inl o
       | inr (x, y, a, c, adds) ↦
           let zz = laws.zero_size in
-          let no_way : x ≡ K.zero = cc in
-          let nor : y ≡ K.zero = cc in
-          inr (rw (no_way, nor, zero_right laws w (omega arith), zero_left laws w (omega arith)) at adds)
+          let di = done.diagonal i li in
+          let dj = done.diagonal j lj in
+          let first : x ≡ K.zero = cc in
+          let last : y ≡ K.zero = cc in
+          inr (rw (first, last, zero_right laws w (omega arith), zero_left laws w (omega arith)) at adds)
     ]
-
-  pub added_done : (n b : ℕ) → 8 * b ≤ reach → K.size w ≤ b → Done K n b d → i < n → j < n → Free K d i j w
-      → (e : Table S) → Added K d i j w e → Done K n (3 * b) e
-  added_done n b room light done li lj free e added = record {
-    inside = λ p q s k. elim (added.goes p q s k) [
-      | inl h ↦ done.inside p q s h
-      | inr (x, y, h, g, adds) ↦ ((done.inside p i x h).0, (done.inside j q y g).1)
-    ];
-    diagonal = λ p l. added_zero b room done.small light done.closed free e added p (done.diagonal p l);
-    small = added_small b room done.small light done.closed free e added;
-    closed = added_closed b room done.small light done.closed free e added;
-  }

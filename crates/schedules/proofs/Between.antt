@@ -93,7 +93,7 @@ module _ {S : Type 0} {K : Kind S} (laws : Laws S K) (N : Network S) (legal : Le
     free_back c x =
         let zo = opposite_size laws s in
         let zc = one_done.small i j c x in
-        let least : s ≤⟨ K ⟩ c = elim (edge_entry laws d i j s furthest (omega arith) wider.small small wider.closed low e one (wider.diagonal i li) (wider.diagonal j lj) c x) [
+        let least : s ≤⟨ K ⟩ c = elim (edge_entry laws d i j s N.points furthest (omega arith) small wider li lj low e one c x) [
           | inl h ↦ high c h
           | inr h ↦ le_of_eq laws (sym h)
         ] in
@@ -107,7 +107,7 @@ module _ {S : Type 0} {K : Kind S} (laws : Laws S K) (N : Network S) (legal : Le
       both_done = added_done laws e j i (⊖⟨ K ⟩ s) N.points (3 * furthest) (omega arith) light one_done lj li free_back f both
 
       down : (p q : ℕ) (a : S) → AtMost K (e p q) a → AtMost K (f p q) a
-      down p q a = old_at_most laws e j i (⊖⟨ K ⟩ s) (3 * furthest) (omega arith) one_done.small light one_done.closed free_back f both p q a
+      down p q a = old_at_most laws e j i (⊖⟨ K ⟩ s) f both p q a
 
       far_room : 8 * (N.points * (3 * (3 * furthest))) ≤ reach
       far_room = omega (arith, legal.few_points)
@@ -127,11 +127,11 @@ module _ {S : Type 0} {K : Kind S} (laws : Laws S K) (N : Network S) (legal : Le
       dated_apart =
           let (dates, rule) = rule_exists laws f N.points (3 * (3 * furthest)) both_done far_room in
           let plan = ruled_far laws N legal (3 * (3 * furthest)) f both_done far_room (omega (arith, legal.few_points))
-          (λ c p q a x. down p q a (old_at_most laws d i j s furthest (omega arith) wider.small small wider.closed low e one p q a (below c p q a x))) dates rule in
+          (λ c p q a x. down p q a (old_at_most laws d i j s e one p q a (below c p q a x))) dates rule in
           let ahead = entry_kept dates rule plan.in_reach i j s li lj (omega arith)
-          (down i j s (edge_kept laws d i j s furthest (omega arith) wider.small small wider.closed low e one (wider.diagonal i li) (wider.diagonal j lj))) in
+          (down i j s (edge_kept laws d i j s N.points furthest (omega arith) small wider li lj low e one)) in
           let back = entry_kept dates rule plan.in_reach j i (⊖⟨ K ⟩ s) lj li light
-          (edge_kept laws e j i (⊖⟨ K ⟩ s) (3 * furthest) (omega arith) one_done.small light one_done.closed free_back f both (one_done.diagonal j lj) (one_done.diagonal i li)) in
+          (edge_kept laws e j i (⊖⟨ K ⟩ s) N.points (3 * furthest) (omega arith) light one_done lj li free_back f both) in
           let zi = plan.in_reach i li in
           let zj = plan.in_reach j lj in
           (dates, plan, apart_by laws dates i j s zi small (met laws (date K dates i) (date K dates j) s zi zj small ahead back))
