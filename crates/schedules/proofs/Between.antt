@@ -18,11 +18,8 @@ use Rattle.distances.proofs.Plans.{KeepsEdges, keeping_plan}
 use Rattle.distances.proofs.Dating.{rule_keeps, rule_exists, first_zero}
 use Rattle.distances.proofs.Deciding.{sound}
 use Rattle.schedules.specs.Range.{ApartBy}
+use Rattle.schedules.proofs.Apart.{furthest, comes_after, apart_by}
 use Rattle.schedules.proofs.Adding.{Added, Free, an_added, edge_kept, edge_entry, added_done, old_at_most}
-
--- one step further than a range tells
-abbrev pub furthest : ℕ
-furthest = largest_distance + 1
 
 pub done_wider : {S : Type 0} (K : Kind S) (n b c : ℕ) (d : Table S) → b ≤ c → Done K n b d → Done K n c d
 done_wider K n b c d h done = record {
@@ -31,29 +28,6 @@ done_wider K n b c d h done = record {
   small = λ i j a e. omega (arith, done.small i j a e);
   closed = done.closed;
 }
-
-module _ {S : Type 0} {K : Kind S} (laws : Laws S K) where
-  -- dates where j comes right at i plus s
-  pub apart_by : (dates : List S) (i j : ℕ) (s : S) → K.size (date K dates i) ≤ largest_date → K.size s ≤ furthest
-      → date K dates j ≡ date K dates i ⊕⟨ K ⟩ s → ApartBy K dates i j s
-  apart_by dates i j s zi zs e =
-      let x = date K dates i in
-      let zo = opposite_size laws x in
-      let zj : K.size (date K dates j) ≤ K.size x + K.size s = omega (arith, ap K.size e, sum_size laws x s) in (
-        ⊖⟨ K ⟩ x,
-        opposite_some laws x (omega arith),
-        sum_some laws (date K dates j) (⊖⟨ K ⟩ x) (omega arith)
-            ∙ ap (λ (o : S). Some (o ⊕⟨ K ⟩ (⊖⟨ K ⟩ x))) (e ∙ comm laws x s (omega arith))
-            ∙ ap (λ (o : S). Some o) (plus_minus laws s x (omega arith)),
-      )
-
-  -- neither later than i plus s nor earlier
-  met : (x y s : S) → K.size x ≤ largest_date → K.size y ≤ largest_date → K.size s ≤ furthest
-      → y ≤⟨ K ⟩ (x ⊕⟨ K ⟩ s) → x ≤⟨ K ⟩ (y ⊕⟨ K ⟩ (⊖⟨ K ⟩ s)) → y ≡ x ⊕⟨ K ⟩ s
-  met x y s zx zy zs high low =
-      let zo = opposite_size laws s in
-      le_antisym laws high
-      (rw (opposite_opposite laws s (omega arith)) at (take_away laws x y (⊖⟨ K ⟩ s) (omega arith) low))
 
 -- ---- dates by the rule on a table that no edge is below are a plan, whatever the bound of its entries
 module _ {S : Type 0} {K : Kind S} (laws : Laws S K) (N : Network S) (legal : Legal K N) (b : ℕ) (d : Table S) (done : Done K N.points b d)
@@ -134,7 +108,7 @@ module _ {S : Type 0} {K : Kind S} (laws : Laws S K) (N : Network S) (legal : Le
           (edge_kept laws e j i (⊖⟨ K ⟩ s) N.points (3 * furthest) (omega arith) light one_done lj li free_back f both) in
           let zi = plan.in_reach i li in
           let zj = plan.in_reach j lj in
-          (dates, plan, apart_by laws dates i j s zi small (met laws (date K dates i) (date K dates j) s zi zj small ahead back))
+          (dates, plan, apart_by laws dates i j zi s small (comes_after laws (date K dates i) (date K dates j) s zi zj small ahead back))
 
   -- every distance that the table allows occurs
   pub table_allows : (dates : List S) × Plan K (hulls N) dates × ApartBy K dates i j s

@@ -5,5 +5,6 @@ pub mod Firsts
 mod Levels
 mod Placing
 mod Descending
+pub mod Apart
 pub mod Adding
 pub mod Between
