@@ -1,25 +1,29 @@
 -- A distance between two points that the entries both ways allow occurs in some plan of the hulls, and no other does. Assumes nothing.
-use Rattle.std.proofs.Common.{◌≡◌, ℕ, ◌+◌, ◌*◌, ◌<◌, ◌≤◌, List, Some, None, Option, sym, refl, ap, ◌∙◌, subst, inl, inr, mul-le-mul_right, arith}
+use Rattle.std.proofs.Common.{◌≡◌, ℕ, suc, ◌+◌, ◌*◌, ◌<◌, ◌≤◌, List, Some, None, Option, unwrap_or, sym, refl, ap, ◌∙◌, subst, inl, inr, mul-le-mul_right, arith}
 use Rattle.spans.specs.Kind.{Kind, Laws, reach, ◌≤⟨◌⟩◌}
 use Rattle.spans.specs.Sums.{◌⊕⟨◌⟩◌, ⊖⟨◌⟩◌}
-use Rattle.spans.specs.Order.{le_of_eq, le_trans, le_antisym}
-use Rattle.spans.proofs.Group.{sum_some, sum_size, comm, opposite_some, opposite_size, opposite_opposite, inverse_left, le_plus_left, plus_minus, take_away}
+use Rattle.spans.specs.Order.{le_of_eq, le_trans}
+use Rattle.spans.proofs.Group.{opposite_some, opposite_size, inverse_left, le_plus, le_plus_left, take_away}
 use Rattle.networks.specs.Limits.{largest_date, largest_distance}
 use Rattle.networks.specs.Network.{Network}
 use Rattle.networks.specs.Hull.{hulls}
-use Rattle.networks.specs.Plan.{date, Plan}
+use Rattle.networks.specs.Plan.{date, HighKept, Plan, HasPlan}
 use Rattle.networks.specs.Legal.{Legal}
 use Rattle.distances.specs.Limits.{largest_total}
 use Rattle.distances.specs.Graph.{Edge}
+use Rattle.distances.specs.Distance.{Least, LeastTotals}
 use Rattle.distances.specs.DateRule.{ByDateRule}
 use Rattle.distances.specs.Table.{Table, AtMost, Done}
-use Rattle.distances.proofs.Tables.{is_there, at_most_up}
+use Rattle.distances.specs.Edges.{opposite_end}
+use Rattle.distances.specs.Decided.{Decided}
+use Rattle.distances.proofs.Tables.{none_some, is_there}
+use Rattle.distances.proofs.Chains.{chain_size, route_few}
 use Rattle.distances.proofs.Plans.{KeepsEdges, keeping_plan}
 use Rattle.distances.proofs.Dating.{rule_keeps, rule_exists, first_zero}
-use Rattle.distances.proofs.Deciding.{sound}
+use Rattle.distances.proofs.Deciding.{sound, one_least, decided, done_table}
 use Rattle.schedules.specs.Range.{ApartBy}
-use Rattle.schedules.proofs.Apart.{furthest, comes_after, apart_by}
-use Rattle.schedules.proofs.Adding.{Added, Free, an_added, edge_kept, edge_entry, added_done, old_at_most}
+use Rattle.schedules.proofs.Apart.{furthest, comes_after, apart_by, apart_at_most, apart_at_least}
+use Rattle.schedules.proofs.Adding.{Added, Free, an_added, old_at_most, added_done, edge_kept, edge_entry}
 
 pub done_wider : {S : Type 0} (K : Kind S) (n b c : ℕ) (d : Table S) → b ≤ c → Done K n b d → Done K n c d
 done_wider K n b c d h done = record {
@@ -116,3 +120,68 @@ module _ {S : Type 0} {K : Kind S} (laws : Laws S K) (N : Network S) (legal : Le
       let (e, one) = an_added laws d i j s in
       let (f, both) = an_added laws e j i (⊖⟨ K ⟩ s) in
       dated_apart e one f both
+
+-- ---- with the least totals of a network whose hulls have a plan
+module _ {S : Type 0} {K : Kind S} (laws : Laws S K) (N : Network S) (legal : Legal K N) (entry : Table S) (least : LeastTotals K N entry)
+    (i j : ℕ) (li : i < N.points) (lj : j < N.points) where
+  -- a total is small: 47 edges of at most 2^24 each stay below 2^30
+  pub total_small : (a : S) → entry i j ≡ Some a → suc (K.size a) ≤ largest_distance
+  total_small a e =
+      let ((cs, (ps, x, apart)), low) = subst (Least K N i j) e (least i j li lj) in
+      let few = route_few laws N (sound laws N legal) lj (ps, x, apart) in
+      omega (arith, chain_size laws N (sound laws N legal) x, legal.few_points)
+
+  -- every plan keeps it
+  pub total_kept : HasPlan K (hulls N) → (dates : List S) → Plan K (hulls N) dates → HighKept K (entry i j) (date K dates i) (date K dates j)
+  total_kept has dates plan = elim (decided laws N legal) [
+    | inl (cs, c, none) ↦ absurd (none has)
+    | inr (other, again, d) ↦
+        subst (λ (x : Option S). HighKept K x (date K dates i) (date K dates j)) (sym (d.only_totals entry least i j li lj)) (d.kept dates plan i j li lj)
+  ]
+
+module _ {S : Type 0} {K : Kind S} (laws : Laws S K) (N : Network S) (legal : Legal K N) (entry : Table S) (least : LeastTotals K N entry)
+    (i j : ℕ) (li : i < N.points) (lj : j < N.points) where
+  module _ (dates : List S) (plan : Plan K (hulls N) dates) (t : S) (apart : ApartBy K dates i j t) where
+    -- no distance is above the entry ahead
+    pub not_above : (a : S) → entry i j ≡ Some a → t ≤⟨ K ⟩ a
+    not_above a e =
+        let (s, adds, h) = subst (λ (x : Option S). HighKept K x (date K dates i) (date K dates j)) e (total_kept laws N legal entry least i j li lj (dates, plan) dates plan) in
+        apart_at_most laws dates i j (plan.in_reach i li) (plan.in_reach j lj) t apart a (omega (arith, total_small laws N legal entry least i j li lj a e))
+        (subst (λ (x : S). date K dates j ≤⟨ K ⟩ x) (sym (ap (λ (o : Option S). unwrap_or o K.zero) adds)) h)
+
+    -- and none is below the opposite of the entry back
+    pub not_below : (a : S) → opposite_end K (entry j i) ≡ Some a → a ≤⟨ K ⟩ t
+    not_below a e = by_entry (entry j i) refl e
+      where
+        by_entry : (x : Option S) → entry j i ≡ x → opposite_end K x ≡ Some a → a ≤⟨ K ⟩ t
+        by_entry None e o = none_some o
+        by_entry (Some c) e o =
+            let (s, adds, h) = subst (λ (x : Option S). HighKept K x (date K dates j) (date K dates i)) e (total_kept laws N legal entry least j i lj li (dates, plan) dates plan) in
+            let zc = total_small laws N legal entry least j i lj li c e in
+            let zo = opposite_size laws c in
+            let zi = plan.in_reach i li in
+            let zj = plan.in_reach j lj in
+            let back : date K dates i ≤⟨ K ⟩ (date K dates j ⊕⟨ K ⟩ c) = subst (λ (x : S). date K dates i ≤⟨ K ⟩ x) (sym (ap (λ (o : Option S). unwrap_or o K.zero) adds)) h in
+            let is : ⊖⟨ K ⟩ c ≡ a = ap (λ (o : Option S). unwrap_or o K.zero) o in
+            subst (λ (x : S). x ≤⟨ K ⟩ t) is
+            (apart_at_least laws dates i j zi zj t apart (⊖⟨ K ⟩ c) (omega arith)
+            (take_away laws (date K dates i) (date K dates j) c (omega arith) back))
+
+  -- every other distance occurs
+  pub between : HasPlan K (hulls N) → (s : S) → K.size s ≤ furthest
+      → ((a : S) → opposite_end K (entry j i) ≡ Some a → a ≤⟨ K ⟩ s) → ((a : S) → entry i j ≡ Some a → s ≤⟨ K ⟩ a)
+      → (dates : List S) × Plan K (hulls N) dates × ApartBy K dates i j s
+  between has s small low high =
+      let (d, done, totals, below) = done_table laws N legal has in
+      let same : (p q : ℕ) → p < N.points → q < N.points → entry p q ≡ d p q =
+      λ p q lp lq. one_least laws N p q (entry p q) (d p q) (least p q lp lq) (totals p q lp lq) in
+      table_allows laws N legal d done below i j li lj s small
+      (λ c e. free c (same j i lj li ∙ e)) (λ a e. high a (same i j li lj ∙ e))
+    where
+      free : (c : S) → entry j i ≡ Some c → K.zero ≤⟨ K ⟩ (s ⊕⟨ K ⟩ c)
+      free c e =
+          let zc = total_small laws N legal entry least j i lj li c e in
+          let zo = opposite_size laws c in
+          rw (inverse_left laws c (omega arith)) at
+          (le_plus laws (⊖⟨ K ⟩ c) s c (omega arith) (omega arith)
+          (low (⊖⟨ K ⟩ c) (ap (opposite_end K) e ∙ opposite_some laws c (omega arith))))
