@@ -1,9 +1,9 @@
 -- The distance between two points of some dates. Assumes nothing.
-use Rattle.std.proofs.Common.{◌≡◌, ℕ, suc, ◌+◌, ◌≤◌, List, Some, Option, unwrap_or, sym, ap, ◌∙◌, arith}
+use Rattle.std.proofs.Common.{◌≡◌, ℕ, suc, ◌+◌, ◌≤◌, List, Some, Option, unwrap_or, sym, ap, ◌∙◌, subst, arith}
 use Rattle.spans.specs.Kind.{Kind, Laws, ◌≤⟨◌⟩◌}
 use Rattle.spans.specs.Sums.{◌⊕⟨◌⟩◌, ⊖⟨◌⟩◌}
 use Rattle.spans.specs.Order.{le_antisym}
-use Rattle.spans.proofs.Group.{sum_some, sum_size, comm, opposite_some, opposite_size, opposite_opposite, plus_minus, minus_plus, le_plus, take_away}
+use Rattle.spans.proofs.Group.{sum_some, sum_size, comm, opposite_some, opposite_size, opposite_opposite, plus_minus, minus_plus, le_plus, le_plus_left, take_away}
 use Rattle.networks.specs.Limits.{largest_date, largest_distance}
 use Rattle.networks.specs.Plan.{date}
 use Rattle.schedules.specs.Range.{ApartBy}
@@ -71,3 +71,17 @@ module _ {S : Type 0} {K : Kind S} (laws : Laws S K) (dates : List S) (i j : ℕ
           let zax = sum_size laws a x in
           rw (plus_minus laws a x (omega arith), apart_is t apart) at
           (le_plus laws (a ⊕⟨ K ⟩ x) (date K dates j) (⊖⟨ K ⟩ x) (omega arith) (omega arith) (rw (comm laws a x (omega arith)) h))
+
+      apart_size : K.size t ≤ K.size (date K dates j) + K.size (date K dates i)
+      apart_size = omega (arith, ap K.size (apart_is t apart), sum_size laws (date K dates j) (⊖⟨ K ⟩ (date K dates i)), opposite_size laws (date K dates i))
+
+      -- i plus a span that is no less, and i plus one that is no greater
+      pub comes_by : (s : S) → K.size s ≤ furthest → t ≤⟨ K ⟩ s → date K dates j ≤⟨ K ⟩ (date K dates i ⊕⟨ K ⟩ s)
+      comes_by s zs h =
+          subst (λ (y : S). y ≤⟨ K ⟩ (date K dates i ⊕⟨ K ⟩ s)) (sym after_is)
+          (le_plus_left laws t s (date K dates i) (omega (arith, apart_size)) (omega arith) h)
+
+      pub comes_from : (s : S) → K.size s ≤ furthest → s ≤⟨ K ⟩ t → (date K dates i ⊕⟨ K ⟩ s) ≤⟨ K ⟩ date K dates j
+      comes_from s zs h =
+          subst (λ (y : S). (date K dates i ⊕⟨ K ⟩ s) ≤⟨ K ⟩ y) (sym after_is)
+          (le_plus_left laws s t (date K dates i) (omega arith) (omega (arith, apart_size)) h)

@@ -8,3 +8,4 @@ mod Descending
 pub mod Apart
 pub mod Adding
 pub mod Between
+pub mod Ends
