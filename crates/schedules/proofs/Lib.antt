@@ -9,3 +9,4 @@ pub mod Apart
 pub mod Adding
 pub mod Between
 pub mod Ends
+pub mod OneEnd

@@ -1,0 +1,143 @@
+-- A legal network has one low end and one high end of each distance: one that is present is small, so that a missing one would go beyond it.
+-- Assumes nothing.
+use Rattle.std.proofs.Common.{◌≡◌, ℕ, suc, ◌<◌, ◌≤◌, List, Some, None, Option, unwrap_or, sym, refl, ap, ◌∙◌, subst, arith}
+use Rattle.std.proofs.lemmas.Bool.{both_ways}
+use Rattle.spans.specs.Kind.{Kind, Laws, ◌<⟨◌⟩◌, ◌≤⟨◌⟩◌}
+use Rattle.spans.specs.Sums.{◌⊕⟨◌⟩◌, ⊖⟨◌⟩◌}
+use Rattle.spans.specs.Order.{le_trans, le_antisym}
+use Rattle.spans.proofs.Group.{sum_size, comm, zero_left, opposite_size, lt_plus, minus_plus}
+use Rattle.networks.specs.Limits.{largest_distance}
+use Rattle.networks.specs.Network.{Network}
+use Rattle.networks.specs.Hull.{hulls}
+use Rattle.networks.specs.Plan.{date, Plan, HasPlan}
+use Rattle.networks.specs.Selection.{selected, Selection}
+use Rattle.networks.specs.Legal.{Legal}
+use Rattle.distances.specs.Distance.{LeastTotals}
+use Rattle.distances.specs.Table.{Table}
+use Rattle.distances.specs.Edges.{opposite_end}
+use Rattle.distances.proofs.Tables.{none_some}
+use Rattle.distances.proofs.Deciding.{done_table}
+use Rattle.schedules.specs.Range.{ApartBy, LowEnd, HighEnd}
+use Rattle.schedules.proofs.Apart.{gap, apart_there, apart_at_most, apart_at_least}
+use Rattle.schedules.proofs.Selecting.{own_hulls, legal_selected, plan_selects, selected_plan}
+use Rattle.schedules.proofs.Ends.{low_small, high_small, down_to, up_to, low_end, high_end}
+
+module _ {S : Type 0} {K : Kind S} (laws : Laws S K) (s : S) (near : K.size s ≤ largest_distance) where
+  -- one step further, either way
+  abbrev pub less_step : S
+  less_step = s ⊕⟨ K ⟩ (⊖⟨ K ⟩ K.step)
+
+  abbrev pub and_step : S
+  and_step = s ⊕⟨ K ⟩ K.step
+
+  pub less_step_size : K.size less_step ≤ suc (K.size s)
+  less_step_size = omega (arith, sum_size laws s (⊖⟨ K ⟩ K.step), opposite_size laws K.step, laws.step_size)
+
+  pub and_step_size : K.size and_step ≤ suc (K.size s)
+  and_step_size = omega (arith, sum_size laws s K.step, laws.step_size)
+
+  pub less_step_below : less_step <⟨ K ⟩ s
+  less_step_below =
+      let z = less_step_size in
+      let zz = laws.zero_size in
+      let zs = laws.step_size in
+      rw (zero_left laws less_step (omega arith), comm laws K.step less_step (omega arith), minus_plus laws s K.step (omega arith)) at
+      (lt_plus laws K.zero K.step less_step (omega arith) (omega arith) laws.step_above_zero)
+
+  pub and_step_above : s <⟨ K ⟩ and_step
+  and_step_above =
+      let zz = laws.zero_size in
+      let zs = laws.step_size in
+      rw (zero_left laws s (omega arith), comm laws K.step s (omega arith)) at
+      (lt_plus laws K.zero K.step s (omega arith) (omega arith) laws.step_above_zero)
+
+module _ {S : Type 0} {K : Kind S} (laws : Laws S K) (N : Network S) (legal : Legal K N) (i j : ℕ) (li : i < N.points) (lj : j < N.points) where
+  -- a selection with a plan, its least totals, and its plans as plans of the network
+  module _ (ws : List ℕ) (sel : Selection N ws) (has : HasPlan K (hulls (selected N ws))) (entry : Table S) (least : LeastTotals K (selected N ws) entry)
+      (dates : List S) (plan : Plan K (selected N ws) dates) (s : S) (near : K.size s ≤ largest_distance) (apart : ApartBy K dates i j s) where
+    right : Legal K (selected N ws)
+    right = legal_selected laws N legal ws sel
+
+    back_plan : (again : List S) → Plan K (hulls (selected N ws)) again → Plan K N again
+    back_plan again p = selected_plan N ws sel again (subst (λ (M : Network S). Plan K M again) (own_hulls N ws) p)
+
+    own_plan : Plan K (hulls (selected N ws)) dates
+    own_plan = subst (λ (M : Network S). Plan K M dates) (sym (own_hulls N ws)) plan
+
+    low_by : (x : Option S) → opposite_end K (entry j i) ≡ x → LowEnd K (hulls (selected N ws)) i j x
+        → ((again : List S) (t : S) → Plan K N again → ApartBy K again i j t → s ≤⟨ K ⟩ t) → suc (K.size s) ≤ largest_distance
+    low_by (Some a) e (za, (again, p, q), low) below =
+        let same : s ≡ a = le_antisym laws (below again a (back_plan again p) q) (low dates s own_plan apart) in
+        omega (arith, ap K.size same, low_small laws (selected N ws) right entry least has i j li lj a e)
+    low_by None e none below =
+        let z = less_step_size laws s near in
+        let (again, t, p, q, low) = down_to laws (selected N ws) right entry least has i j li lj (less_step laws s near) (omega arith) (λ a f. none_some (sym e ∙ f)) in
+        absurd (both_ways _ (le_trans laws (below again t (back_plan again p) q) low) (less_step_below laws s near))
+
+    high_by : (x : Option S) → entry i j ≡ x → HighEnd K (hulls (selected N ws)) i j x
+        → ((again : List S) (t : S) → Plan K N again → ApartBy K again i j t → t ≤⟨ K ⟩ s) → suc (K.size s) ≤ largest_distance
+    high_by (Some b) e (zb, (again, p, q), high) above =
+        let same : s ≡ b = le_antisym laws (high dates s own_plan apart) (above again b (back_plan again p) q) in
+        omega (arith, ap K.size same, high_small laws (selected N ws) right entry least has i j li lj b e)
+    high_by None e none above =
+        let z = and_step_size laws s near in
+        let (again, t, p, q, high) = up_to laws (selected N ws) right entry least has i j li lj (and_step laws s near) (omega arith) (λ a f. none_some (sym e ∙ f)) in
+        absurd (both_ways _ (le_trans laws high (above again t (back_plan again p) q)) (and_step_above laws s near))
+
+  -- an end that is present leaves room for one step
+  pub present_low_small : (s : S) → LowEnd K N i j (Some s) → suc (K.size s) ≤ largest_distance
+  present_low_small s (zs, (dates, plan, apart), below) =
+      let (ws, sel, p) = plan_selects N dates plan in
+      let right = legal_selected laws N legal ws sel in
+      let has : HasPlan K (hulls (selected N ws)) = (dates, subst (λ (M : Network S). Plan K M dates) (sym (own_hulls N ws)) p) in
+      let (entry, done, least, edges) = done_table laws (selected N ws) right has in
+      low_by ws sel has entry least dates p s zs apart (opposite_end K (entry j i)) refl
+      (low_end laws (selected N ws) right entry least has i j li lj) below
+
+  pub present_high_small : (s : S) → HighEnd K N i j (Some s) → suc (K.size s) ≤ largest_distance
+  present_high_small s (zs, (dates, plan, apart), above) =
+      let (ws, sel, p) = plan_selects N dates plan in
+      let right = legal_selected laws N legal ws sel in
+      let has : HasPlan K (hulls (selected N ws)) = (dates, subst (λ (M : Network S). Plan K M dates) (sym (own_hulls N ws)) p) in
+      let (entry, done, least, edges) = done_table laws (selected N ws) right has in
+      high_by ws sel has entry least dates p s zs apart (entry i j) refl
+      (high_end laws (selected N ws) right entry least has i j li lj) above
+
+  -- a missing end goes one step beyond
+  never_low : (s : S) → LowEnd K N i j (Some s) → LowEnd K N i j None → ⊥
+  never_low s (zs, w, below) none =
+      let z = less_step_size laws s zs in
+      let room = present_low_small s (zs, w, below) in
+      let (dates, x, plan, adds, low) = none (less_step laws s zs) (omega arith) in
+      let zi = plan.in_reach i li in
+      let zj = plan.in_reach j lj in
+      let apart = apart_there laws dates i j zi zj in
+      let is : date K dates i ⊕⟨ K ⟩ less_step laws s zs ≡ x = ap (λ (o : Option S). unwrap_or o K.zero) adds in
+      let least : gap laws dates i j ≤⟨ K ⟩ less_step laws s zs =
+      apart_at_most laws dates i j zi zj (gap laws dates i j) apart (less_step laws s zs) (omega arith) (subst (λ (y : S). date K dates j ≤⟨ K ⟩ y) (sym is) low) in
+      both_ways _ (le_trans laws (below dates (gap laws dates i j) plan apart) least) (less_step_below laws s zs)
+
+  never_high : (s : S) → HighEnd K N i j (Some s) → HighEnd K N i j None → ⊥
+  never_high s (zs, w, above) none =
+      let z = and_step_size laws s zs in
+      let room = present_high_small s (zs, w, above) in
+      let (dates, x, plan, adds, high) = none (and_step laws s zs) (omega arith) in
+      let zi = plan.in_reach i li in
+      let zj = plan.in_reach j lj in
+      let apart = apart_there laws dates i j zi zj in
+      let is : date K dates i ⊕⟨ K ⟩ and_step laws s zs ≡ x = ap (λ (o : Option S). unwrap_or o K.zero) adds in
+      let most : and_step laws s zs ≤⟨ K ⟩ gap laws dates i j =
+      apart_at_least laws dates i j zi zj (gap laws dates i j) apart (and_step laws s zs) (omega arith) (subst (λ (y : S). y ≤⟨ K ⟩ date K dates j) (sym is) high) in
+      both_ways _ (le_trans laws most (above dates (gap laws dates i j) plan apart)) (and_step_above laws s zs)
+
+  pub one_low : (x y : Option S) → LowEnd K N i j x → LowEnd K N i j y → x ≡ y
+  one_low None None p q = refl
+  one_low None (Some t) p q = absurd (never_low t q p)
+  one_low (Some s) None p q = absurd (never_low s p q)
+  one_low (Some s) (Some t) (zs, (ds, p, a), h) (zt, (dt, q, b), k) = ap (λ (o : S). Some o) (le_antisym laws (h dt t q b) (k ds s p a))
+
+  pub one_high : (x y : Option S) → HighEnd K N i j x → HighEnd K N i j y → x ≡ y
+  one_high None None p q = refl
+  one_high None (Some t) p q = absurd (never_high t q p)
+  one_high (Some s) None p q = absurd (never_high s p q)
+  one_high (Some s) (Some t) (zs, (ds, p, a), h) (zt, (dt, q, b), k) = ap (λ (o : S). Some o) (le_antisym laws (k ds s p a) (h dt t q b))
