@@ -10,3 +10,4 @@ pub mod Adding
 pub mod Between
 pub mod Ends
 pub mod OneEnd
+pub mod Joining
