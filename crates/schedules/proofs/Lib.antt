@@ -11,3 +11,4 @@ pub mod Between
 pub mod Ends
 pub mod OneEnd
 pub mod Joining
+pub mod Sweeps

@@ -5,12 +5,14 @@
 --     Swept K P i j r                 r has both ends over the dates of which P holds, or is missing where there are none
 --     Departs ws place w vs           vs has an earlier window than ws at some place below this one, or agrees up to it and has one below w
 --     Through K N ws place w dates    these dates are a plan of a selection that departs so
+--     Sweeping K N i j ..             at a level of the choice conditions, the ends over what is gone through
 use Rattle.std.specs.Prelude.{◌≡◌, ℕ, ◌<◌, cond, ◌⊎◌, List, Some, None, Option, slice_index}
 use Rattle.spans.specs.Kind.{Kind}
 use Rattle.networks.specs.Network.{Network}
 use Rattle.networks.specs.Plan.{Plan}
-use Rattle.networks.specs.Selection.{selected, Selection}
-use Rattle.schedules.specs.Choosing.{Agrees}
+use Rattle.networks.specs.Selection.{selected, chosen, Selection}
+use Rattle.distances.specs.Closing.{Closes}
+use Rattle.schedules.specs.Choosing.{Agrees, ChosenUpto}
 use Rattle.schedules.specs.Range.{LowOver, HighOver}
 
 module _ {S : Type 0} (K : Kind S) where
@@ -40,3 +42,10 @@ Departs ws place w vs =
 
 abbrev pub Through : {S : Type 0} → Kind S → Network S → List ℕ → ℕ → ℕ → List S → Type 0
 Through K N ws place w dates = (vs : List ℕ) × Selection N vs × Departs ws place w vs × Plan K (selected N vs) dates
+
+-- at level l, with ws chosen below its place and the windows below w at it gone through; before the first one is tried, the matrix is closed for ws
+pub record Sweeping {S : Type 0} (K : Kind S) (N : Network S) (i j : ℕ) (places : ℕ → ℕ) (l : ℕ) (ws : List ℕ) (w : ℕ)
+    (ends : Option (Option S × Option S)) (matrix : List (Option S)) : Type 0 where
+  pub upto : ChosenUpto N ws (places l)
+  pub swept : Swept K (Through K N ws (places l) w) i j ends
+  pub closes : w ≡ 0 → Closes K (chosen N ws (places l)) matrix
