@@ -21,6 +21,11 @@ use Rattle.schedules.proofs.Ends.{low_end, high_end}
 use Rattle.schedules.proofs.Joining.{Either, low_same, high_same, swept_same, swept_join}
 
 -- ---- which selections are gone through
+-- with more windows gone through
+departs_more : (ws vs : List ℕ) (place w v : ℕ) → w ≤ v → Departs ws place w vs → Departs ws place v vs
+departs_more ws vs place w v le (inl h) = inl h
+departs_more ws vs place w v le (inr (same, less)) = inr (same, omega arith)
+
 module _ {S : Type 0} (N : Network S) where
   -- a selection's number at a place is below the count there
   number_below : (vs : List ℕ) → Selection N vs → (place r : ℕ) → Turns N place r → get_or vs place 0 < r
@@ -143,20 +148,20 @@ module _ {S : Type 0} {K : Kind S} (laws : Laws S K) (N : Network S) (i j : ℕ)
   }
 
   -- or all that goes on from it was gone through
-  pub sweeping_through : (l w r : ℕ) → l < 6 → (ws us : List ℕ) (ends inner : Option (Option S × Option S)) (before mid deep after : List (Option S))
-      → Sweeping K N i j places l ws w ends before → GoesOn K N ws (places l) w us (places (suc l)) mid → Turns N (places (suc l)) r
-      → Sweeping K N i j places (suc l) us r inner deep → Sweeping K N i j places l ws (w + 1) inner after
-  sweeping_through l w r low ws us ends inner before mid deep after t goes turns d = record {
+  pub sweeping_through : (l w r v : ℕ) → l < 6 → (ws us : List ℕ) (ends inner : Option (Option S × Option S)) (before mid deep after : List (Option S))
+      → Sweeping K N i j places l ws w ends before → GoesOn K N ws (places l) w us (places (suc l)) mid → Turns N (places (suc l)) r → r ≤ v
+      → Sweeping K N i j places (suc l) us v inner deep → Sweeping K N i j places l ws (w + 1) inner after
+  sweeping_through l w r v low ws us ends inner before mid deep after t goes turns h d = record {
     upto = t.upto;
-    swept = swept_same K (Through K N us (places (suc l)) r) (Through K N ws (places l) (w + 1)) i j
+    swept = swept_same K (Through K N us (places (suc l)) v) (Through K N ws (places l) (w + 1)) i j
         (λ dates (vs, s, departs, plan). (vs, s, up vs s departs, plan))
         (λ dates (vs, s, departs, plan). (vs, s, down vs s departs, plan))
         inner d.swept;
     closes = λ e. absurd (omega arith);
   }
     where
-      up : (vs : List ℕ) → Selection N vs → Departs us (places (suc l)) r vs → Departs ws (places l) (w + 1) vs
-      up vs s departs = elim (departs_up N places ps l low ws us vs w goes.agrees goes.number goes.upto r departs) [
+      up : (vs : List ℕ) → Selection N vs → Departs us (places (suc l)) v vs → Departs ws (places l) (w + 1) vs
+      up vs s departs = elim (departs_up N places ps l low ws us vs w goes.agrees goes.number goes.upto v departs) [
         | inl (inl h) ↦ inl h
         | inl (inr (same, less)) ↦ inr (same, omega arith)
         | inr (same, less) ↦
@@ -164,20 +169,95 @@ module _ {S : Type 0} {K : Kind S} (laws : Laws S K) (N : Network S) (i j : ℕ)
             inr (agrees, omega arith)
       ]
 
-      down : (vs : List ℕ) → Selection N vs → Departs ws (places l) (w + 1) vs → Departs us (places (suc l)) r vs
-      down vs s (inl h) = all (departs_down N places ps l low ws us vs w goes.agrees goes.number goes.upto (inl h))
-        where
-          all : Departs us (places (suc l)) 0 vs → Departs us (places (suc l)) r vs
-          all (inl h) = inl h
-          all (inr (same, less)) = absurd (omega arith)
+      on : (vs : List ℕ) → Departs ws (places l) w vs → Departs us (places (suc l)) v vs
+      on vs departs =
+          departs_more us vs (places (suc l)) 0 v (omega arith) (departs_down N places ps l low ws us vs w goes.agrees goes.number goes.upto departs)
+
+      down : (vs : List ℕ) → Selection N vs → Departs ws (places l) (w + 1) vs → Departs us (places (suc l)) v vs
+      down vs s (inl h) = on vs (inl h)
       down vs s (inr (same, less)) = elim (ℕ_discrete (get_or vs (places l) 0) w) [
         | yes here ↦ inr (
             down_agrees N places ps l low vs us s goes.upto (λ k lk. same k lk ∙ sym (goes.agrees k lk)) (here ∙ sym goes.number),
-            number_below N vs s (places (suc l)) r turns,
+            omega (arith, number_below N vs s (places (suc l)) r turns),
           )
-        | no other ↦ all (departs_down N places ps l low ws us vs w goes.agrees goes.number goes.upto (inr (same, omega arith)))
+        | no other ↦ on vs (inr (same, omega arith))
       ]
-        where
-          all : Departs us (places (suc l)) 0 vs → Departs us (places (suc l)) r vs
-          all (inl h) = inl h
-          all (inr (same, less)) = absurd (omega arith)
+
+  -- a whole selection: its ends are the entries
+  module _ (legal : Legal K N) (li : i < N.points) (lj : j < N.points) (us : List ℕ) (upto : ChosenUpto N us (places 6)) (matrix : List (Option S)) where
+    abbrev pub entries : Option S × Option S
+    entries = (opposite_end K (entry_of N.points matrix j i), entry_of N.points matrix i j)
+
+    whole : chosen N us (places 6) ≡ selected N us
+    whole = ap (chosen N us) ps.last ∙ chosen_all N us
+
+    leaf_ends : Closes K (chosen N us (places 6)) matrix → Swept K (Plan K (selected N us)) i j (Some entries)
+    leaf_ends closes =
+        let M = chosen N us (places 6) in
+        let right : Legal K M = legal_chosen laws N legal us (places 6) (omega (arith, ps.last, upto.long)) upto.there in
+        let own : hulls M ≡ selected N us = chosen_hulls N us (places 6) ∙ whole in
+        subst (λ (L : Network S). Swept K (Plan K L) i j (Some entries)) own (
+          low_end laws M right (entry_of N.points matrix) closes.least closes.plan i j li lj,
+          high_end laws M right (entry_of N.points matrix) closes.least closes.plan i j li lj,
+        )
+
+    -- its numbers are those of a selection, and no other selection agrees with them
+    abbrev front : List ℕ
+    front = take (length N.conditions) us
+
+    front_length : length front ≡ length N.conditions
+    front_length = length-take-le (length N.conditions) us upto.long
+
+    front_agrees : Agrees (places 6) front us
+    front_agrees k lk = get_or-take (length N.conditions) us k 0 (omega (arith, ps.last))
+
+    front_selection : Selection N front
+    front_selection = record {
+      one_each = front_length;
+      there = λ k l. omega (arith, front_agrees k (omega (arith, ps.last)), upto.there k (omega (arith, ps.last)) l);
+    }
+
+    front_selected : selected N us ≡ selected N front
+    front_selected = ap (λ (cs : List (Condition S)). record { points = N.points; conditions = cs }) (selected_front N.conditions us upto.long)
+
+    alone : (vs : List ℕ) → Selection N vs → Agrees (places 6) vs us → selected N vs ≡ selected N us
+    alone vs s same =
+        ap (selected N) (ext_get_or 0 vs front (s.one_each ∙ sym front_length)
+        (λ k l. let lk : k < places 6 = omega (arith, ps.last, s.one_each) in same k lk ∙ sym (front_agrees k lk)))
+        ∙ sym front_selected
+
+    pub sweeping_leaf : (ends : Option (Option S × Option S)) (after : List (Option S)) → Sweeping K N i j places 6 us 0 ends matrix
+        → Sweeping K N i j places 6 us 1 (joined_ends K ends (Some entries)) after
+    sweeping_leaf ends after t = record {
+      upto = upto;
+      swept = swept_same K (Either laws (Through K N us (places 6) 0) (Plan K (selected N us)) i j) (Through K N us (places 6) 1) i j
+          (λ dates. elim [
+            | inl (vs, s, departs, plan) ↦ (vs, s, departs_more us vs (places 6) 0 1 (omega arith) departs, plan)
+            | inr plan ↦ (
+                front,
+                front_selection,
+                inr (front_agrees, number_below N front front_selection (places 6) 1 (record { of_condition = λ l. omega (arith, ps.last); past = λ h. refl })),
+                subst (λ (M : Network S). Plan K M dates) front_selected plan,
+              )
+          ])
+          (λ dates (vs, s, departs, plan). by_departs dates vs s plan departs)
+          (joined_ends K ends (Some entries))
+          (swept_join laws (Through K N us (places 6) 0) (Plan K (selected N us)) i j ends (Some entries) t.swept (leaf_ends (t.closes refl)));
+      closes = λ e. absurd (omega arith);
+    }
+      where
+        by_departs : (dates : List S) (vs : List ℕ) → Selection N vs → Plan K (selected N vs) dates → Departs us (places 6) 1 vs
+            → Through K N us (places 6) 0 dates ⊎ Plan K (selected N us) dates
+        by_departs dates vs s plan (inl h) = inl (vs, s, inl h, plan)
+        by_departs dates vs s plan (inr (same, less)) = inr (subst (λ (M : Network S). Plan K M dates) (alone vs s same) plan)
+
+  -- the end: every selection is gone through, and their plans are those of the network
+  pub sweeping_ends : (start : List ℕ) (w r : ℕ) (ends : Option (Option S × Option S)) (matrix : List (Option S)) → Turns N (places 0) r → r ≤ w
+      → Sweeping K N i j places 0 start w ends matrix → Swept K (Plan K N) i j ends
+  sweeping_ends start w r ends matrix turns h t =
+      swept_same K (Through K N start (places 0) w) (Plan K N) i j
+      (λ dates (vs, s, departs, plan). selected_plan N vs s dates plan)
+      (λ dates plan.
+      let (vs, s, own) = plan_selects N dates plan in
+      (vs, s, departs_more start vs (places 0) r w h (all_depart N places ps start vs t.upto s r turns), own))
+      ends t.swept
