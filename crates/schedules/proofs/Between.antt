@@ -1,5 +1,5 @@
 -- A distance between two points that the entries both ways allow occurs in some plan of the hulls, and no other does. Assumes nothing.
-use Rattle.std.proofs.Common.{◌≡◌, ℕ, suc, ◌+◌, ◌*◌, ◌<◌, ◌≤◌, List, Some, None, Option, unwrap_or, sym, refl, ap, ◌∙◌, subst, inl, inr, mul-le-mul_right, arith}
+use Rattle.std.proofs.Common.{◌≡◌, ℕ, suc, ◌+◌, ◌*◌, ◌<◌, ◌≤◌, List, Some, None, Option, unwrap_or, sym, refl, ap, ◌∙◌, subst, inl, inr, arith}
 use Rattle.spans.specs.Kind.{Kind, Laws, reach, ◌≤⟨◌⟩◌}
 use Rattle.spans.specs.Sums.{◌⊕⟨◌⟩◌, ⊖⟨◌⟩◌}
 use Rattle.spans.specs.Order.{le_of_eq, le_trans}
@@ -25,42 +25,17 @@ use Rattle.schedules.specs.Range.{ApartBy}
 use Rattle.schedules.proofs.Apart.{furthest, comes_after, apart_by, apart_at_most, apart_at_least}
 use Rattle.schedules.proofs.Adding.{Added, Free, an_added, old_at_most, added_done, edge_kept, edge_entry}
 
-pub done_wider : {S : Type 0} (K : Kind S) (n b c : ℕ) (d : Table S) → b ≤ c → Done K n b d → Done K n c d
-done_wider K n b c d h done = record {
-  inside = done.inside;
-  diagonal = done.diagonal;
-  small = λ i j a e. omega (arith, done.small i j a e);
-  closed = done.closed;
-}
-
--- ---- dates by the rule on a table that no edge is below are a plan, whatever the bound of its entries
-module _ {S : Type 0} {K : Kind S} (laws : Laws S K) (N : Network S) (legal : Legal K N) (b : ℕ) (d : Table S) (done : Done K N.points b d)
-    (room : 8 * (N.points * b) ≤ reach) (near : N.points * b ≤ largest_date)
-    (below : (c i j : ℕ) (a : S) → Edge K N c i j a → AtMost K (d i j) a) where
-  ruled_far : (dates : List S) → ByDateRule K d dates N.points → Plan K (hulls N) dates
-  ruled_far dates rule =
-      keeping_plan laws N legal dates rule.one_each (first_zero laws d N.points b done room dates rule legal.some_point) small keeps
-    where
-      small : (p : ℕ) → p < N.points → K.size (date K dates p) ≤ largest_date
-      small p l = omega (arith, (rule_keeps laws d N.points b done room dates rule).0 p l, mul-le-mul_right {m = p} {n = N.points} b (omega arith))
-
-      keeps : KeepsEdges laws N legal (date K dates)
-      keeps c i j a e =
-          let (li, lj) = (sound laws N legal).inside c i j a e in
-          let (g, x, h) = is_there laws (d i j) a (below c i j a e) in
-          let za = (sound laws N legal).light c i j a e in
-          let zg = done.small i j g x in
-          let zi = small i li in
-          let wide : b ≤ N.points * b = omega (arith, mul-le-mul_right {m = 1} {n = N.points} b legal.some_point) in
-          le_trans laws ((rule_keeps laws d N.points b done room dates rule).1 i j g li lj x)
-          (le_plus_left laws g a (date K dates i) (omega arith) (omega arith) h)
-
 -- ---- the table with an edge each way, of weight s and its opposite
 module _ {S : Type 0} {K : Kind S} (laws : Laws S K) (N : Network S) (legal : Legal K N) (d : Table S) (done : Done K N.points largest_total d)
     (below : (c i j : ℕ) (a : S) → Edge K N c i j a → AtMost K (d i j) a) (i j : ℕ) (li : i < N.points) (lj : j < N.points)
     (s : S) (small : K.size s ≤ furthest) (low : Free K d i j s) (high : (a : S) → d i j ≡ Some a → s ≤⟨ K ⟩ a) where
   wider : Done K N.points furthest d
-  wider = done_wider K N.points largest_total furthest d (omega arith) done
+  wider = record {
+    inside = done.inside;
+    diagonal = done.diagonal;
+    small = λ p q a e. omega (arith, done.small p q a e);
+    closed = done.closed;
+  }
 
   module _ (e : Table S) (one : Added K d i j s e) where
     one_done : Done K N.points (3 * furthest) e
@@ -84,35 +59,51 @@ module _ {S : Type 0} {K : Kind S} (laws : Laws S K) (N : Network S) (legal : Le
       both_done : Done K N.points (3 * (3 * furthest)) f
       both_done = added_done laws e j i (⊖⟨ K ⟩ s) N.points (3 * furthest) (omega arith) light one_done lj li free_back f both
 
-      down : (p q : ℕ) (a : S) → AtMost K (e p q) a → AtMost K (f p q) a
-      down p q a = old_at_most laws e j i (⊖⟨ K ⟩ s) f both p q a
-
       far_room : 8 * (N.points * (3 * (3 * furthest))) ≤ reach
       far_room = omega (arith, legal.few_points)
 
-      -- an entry that is not above a is kept, so j comes at most a after i
-      entry_kept : (dates : List S) → ByDateRule K f dates N.points → ((p : ℕ) → p < N.points → K.size (date K dates p) ≤ largest_date)
-          → (p q : ℕ) (a : S) → p < N.points → q < N.points → K.size a ≤ 3 * furthest → AtMost K (f p q) a
-          → date K dates q ≤⟨ K ⟩ (date K dates p ⊕⟨ K ⟩ a)
-      entry_kept dates rule near p q a lp lq za h =
-          let (g, x, low) = is_there laws (f p q) a h in
-          let zg = both_done.small p q g x in
-          let zp = near p lp in
-          le_trans laws ((rule_keeps laws f N.points (3 * (3 * furthest)) both_done far_room dates rule).1 p q g lp lq x)
-          (le_plus_left laws g a (date K dates p) (omega arith) (omega arith) low)
+      module _ (dates : List S) (rule : ByDateRule K f dates N.points) where
+        near : (p : ℕ) → p < N.points → K.size (date K dates p) ≤ largest_date
+        near p l = omega (arith, legal.few_points, (rule_keeps laws f N.points (3 * (3 * furthest)) both_done far_room dates rule).0 p l)
+
+        -- what the table has once both edges are added is kept
+        kept : (p q : ℕ) (a : S) → p < N.points → q < N.points → K.size a ≤ 3 * furthest → AtMost K (f p q) a
+            → date K dates q ≤⟨ K ⟩ (date K dates p ⊕⟨ K ⟩ a)
+        kept p q a lp lq za h =
+            let (g, x, less) = is_there laws (f p q) a h in
+            let zg = both_done.small p q g x in
+            let zp = near p lp in
+            le_trans laws ((rule_keeps laws f N.points (3 * (3 * furthest)) both_done far_room dates rule).1 p q g lp lq x)
+            (le_plus_left laws g a (date K dates p) (omega arith) (omega arith) less)
+
+        -- and so is what it had after the first one, or before
+        kept_first : (p q : ℕ) (a : S) → p < N.points → q < N.points → K.size a ≤ 3 * furthest → AtMost K (e p q) a
+            → date K dates q ≤⟨ K ⟩ (date K dates p ⊕⟨ K ⟩ a)
+        kept_first p q a lp lq za h = kept p q a lp lq za (old_at_most laws e j i (⊖⟨ K ⟩ s) f both p q a h)
+
+        keeps : KeepsEdges laws N legal (date K dates)
+        keeps c p q a x =
+            let (lp, lq) = (sound laws N legal).inside c p q a x in
+            let za = (sound laws N legal).light c p q a x in
+            kept_first p q a lp lq (omega arith) (old_at_most laws d i j s e one p q a (below c p q a x))
+
+        plan : Plan K (hulls N) dates
+        plan =
+            keeping_plan laws N legal dates rule.one_each
+            (first_zero laws f N.points (3 * (3 * furthest)) both_done far_room dates rule legal.some_point) near keeps
+
+        apart : ApartBy K dates i j s
+        apart =
+            let ahead = kept_first i j s li lj (omega arith) (edge_kept laws d i j s N.points furthest (omega arith) small wider li lj low e one) in
+            let back = kept j i (⊖⟨ K ⟩ s) lj li light
+            (edge_kept laws e j i (⊖⟨ K ⟩ s) N.points (3 * furthest) (omega arith) light one_done lj li free_back f both) in
+            apart_by laws dates i j (near i li) s small
+            (comes_after laws (date K dates i) (date K dates j) s (near i li) (near j lj) small ahead back)
 
       dated_apart : (dates : List S) × Plan K (hulls N) dates × ApartBy K dates i j s
       dated_apart =
           let (dates, rule) = rule_exists laws f N.points (3 * (3 * furthest)) both_done far_room in
-          let plan = ruled_far laws N legal (3 * (3 * furthest)) f both_done far_room (omega (arith, legal.few_points))
-          (λ c p q a x. down p q a (old_at_most laws d i j s e one p q a (below c p q a x))) dates rule in
-          let ahead = entry_kept dates rule plan.in_reach i j s li lj (omega arith)
-          (down i j s (edge_kept laws d i j s N.points furthest (omega arith) small wider li lj low e one)) in
-          let back = entry_kept dates rule plan.in_reach j i (⊖⟨ K ⟩ s) lj li light
-          (edge_kept laws e j i (⊖⟨ K ⟩ s) N.points (3 * furthest) (omega arith) light one_done lj li free_back f both) in
-          let zi = plan.in_reach i li in
-          let zj = plan.in_reach j lj in
-          (dates, plan, apart_by laws dates i j zi s small (comes_after laws (date K dates i) (date K dates j) s zi zj small ahead back))
+          (dates, plan dates rule, apart dates rule)
 
   -- every distance that the table allows occurs
   pub table_allows : (dates : List S) × Plan K (hulls N) dates × ApartBy K dates i j s

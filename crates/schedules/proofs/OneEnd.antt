@@ -52,56 +52,55 @@ module _ {S : Type 0} {K : Kind S} (laws : Laws S K) (s : S) (near : K.size s �
       (lt_plus laws K.zero K.step s (omega arith) (omega arith) laws.step_above_zero)
 
 module _ {S : Type 0} {K : Kind S} (laws : Laws S K) (N : Network S) (legal : Legal K N) (i j : ℕ) (li : i < N.points) (lj : j < N.points) where
-  -- a selection with a plan, its least totals, and its plans as plans of the network
-  module _ (ws : List ℕ) (sel : Selection N ws) (has : HasPlan K (hulls (selected N ws))) (entry : Table S) (least : LeastTotals K (selected N ws) entry)
-      (dates : List S) (plan : Plan K (selected N ws) dates) (s : S) (near : K.size s ≤ largest_distance) (apart : ApartBy K dates i j s) where
+  -- a selection with a plan: it is legal, the plan is one of its hulls, and theirs are plans of the network
+  module _ (ws : List ℕ) (sel : Selection N ws) (dates : List S) (plan : Plan K (selected N ws) dates) where
     right : Legal K (selected N ws)
     right = legal_selected laws N legal ws sel
-
-    back_plan : (again : List S) → Plan K (hulls (selected N ws)) again → Plan K N again
-    back_plan again p = selected_plan N ws sel again (subst (λ (M : Network S). Plan K M again) (own_hulls N ws) p)
 
     own_plan : Plan K (hulls (selected N ws)) dates
     own_plan = subst (λ (M : Network S). Plan K M dates) (sym (own_hulls N ws)) plan
 
-    low_by : (x : Option S) → opposite_end K (entry j i) ≡ x → LowEnd K (hulls (selected N ws)) i j x
-        → ((again : List S) (t : S) → Plan K N again → ApartBy K again i j t → s ≤⟨ K ⟩ t) → suc (K.size s) ≤ largest_distance
-    low_by (Some a) e (za, (again, p, q), low) below =
-        let same : s ≡ a = le_antisym laws (below again a (back_plan again p) q) (low dates s own_plan apart) in
-        omega (arith, ap K.size same, low_small laws (selected N ws) right entry least has i j li lj a e)
-    low_by None e none below =
-        let z = less_step_size laws s near in
-        let (again, t, p, q, low) = down_to laws (selected N ws) right entry least has i j li lj (less_step laws s near) (omega arith) (λ a f. none_some (sym e ∙ f)) in
-        absurd (both_ways _ (le_trans laws (below again t (back_plan again p) q) low) (less_step_below laws s near))
+    back_plan : (again : List S) → Plan K (hulls (selected N ws)) again → Plan K N again
+    back_plan again p = selected_plan N ws sel again (subst (λ (M : Network S). Plan K M again) (own_hulls N ws) p)
 
-    high_by : (x : Option S) → entry i j ≡ x → HighEnd K (hulls (selected N ws)) i j x
-        → ((again : List S) (t : S) → Plan K N again → ApartBy K again i j t → t ≤⟨ K ⟩ s) → suc (K.size s) ≤ largest_distance
-    high_by (Some b) e (zb, (again, p, q), high) above =
-        let same : s ≡ b = le_antisym laws (high dates s own_plan apart) (above again b (back_plan again p) q) in
-        omega (arith, ap K.size same, high_small laws (selected N ws) right entry least has i j li lj b e)
-    high_by None e none above =
-        let z = and_step_size laws s near in
-        let (again, t, p, q, high) = up_to laws (selected N ws) right entry least has i j li lj (and_step laws s near) (omega arith) (λ a f. none_some (sym e ∙ f)) in
-        absurd (both_ways _ (le_trans laws high (above again t (back_plan again p) q)) (and_step_above laws s near))
+    module _ (entry : Table S) (least : LeastTotals K (selected N ws) entry) (s : S) (near : K.size s ≤ largest_distance) (apart : ApartBy K dates i j s) where
+      has : HasPlan K (hulls (selected N ws))
+      has = (dates, own_plan)
+
+      low_by : (x : Option S) → opposite_end K (entry j i) ≡ x → LowEnd K (hulls (selected N ws)) i j x
+          → ((again : List S) (t : S) → Plan K N again → ApartBy K again i j t → s ≤⟨ K ⟩ t) → suc (K.size s) ≤ largest_distance
+      low_by (Some a) e (za, (again, p, q), low) below =
+          let same : s ≡ a = le_antisym laws (below again a (back_plan again p) q) (low dates s own_plan apart) in
+          omega (arith, ap K.size same, low_small laws (selected N ws) right entry least has i j li lj a e)
+      low_by None e none below =
+          let z = less_step_size laws s near in
+          let (again, t, p, q, low) = down_to laws (selected N ws) right entry least has i j li lj (less_step laws s near) (omega arith) (λ a f. none_some (sym e ∙ f)) in
+          absurd (both_ways _ (le_trans laws (below again t (back_plan again p) q) low) (less_step_below laws s near))
+
+      high_by : (x : Option S) → entry i j ≡ x → HighEnd K (hulls (selected N ws)) i j x
+          → ((again : List S) (t : S) → Plan K N again → ApartBy K again i j t → t ≤⟨ K ⟩ s) → suc (K.size s) ≤ largest_distance
+      high_by (Some b) e (zb, (again, p, q), high) above =
+          let same : s ≡ b = le_antisym laws (high dates s own_plan apart) (above again b (back_plan again p) q) in
+          omega (arith, ap K.size same, high_small laws (selected N ws) right entry least has i j li lj b e)
+      high_by None e none above =
+          let z = and_step_size laws s near in
+          let (again, t, p, q, high) = up_to laws (selected N ws) right entry least has i j li lj (and_step laws s near) (omega arith) (λ a f. none_some (sym e ∙ f)) in
+          absurd (both_ways _ (le_trans laws high (above again t (back_plan again p) q)) (and_step_above laws s near))
 
   -- an end that is present leaves room for one step
   pub present_low_small : (s : S) → LowEnd K N i j (Some s) → suc (K.size s) ≤ largest_distance
   present_low_small s (zs, (dates, plan, apart), below) =
       let (ws, sel, p) = plan_selects N dates plan in
-      let right = legal_selected laws N legal ws sel in
-      let has : HasPlan K (hulls (selected N ws)) = (dates, subst (λ (M : Network S). Plan K M dates) (sym (own_hulls N ws)) p) in
-      let (entry, done, least, edges) = done_table laws (selected N ws) right has in
-      low_by ws sel has entry least dates p s zs apart (opposite_end K (entry j i)) refl
-      (low_end laws (selected N ws) right entry least has i j li lj) below
+      let (entry, done, least, edges) = done_table laws (selected N ws) (right ws sel dates p) (dates, own_plan ws sel dates p) in
+      low_by ws sel dates p entry least s zs apart (opposite_end K (entry j i)) refl
+      (low_end laws (selected N ws) (right ws sel dates p) entry least (dates, own_plan ws sel dates p) i j li lj) below
 
   pub present_high_small : (s : S) → HighEnd K N i j (Some s) → suc (K.size s) ≤ largest_distance
   present_high_small s (zs, (dates, plan, apart), above) =
       let (ws, sel, p) = plan_selects N dates plan in
-      let right = legal_selected laws N legal ws sel in
-      let has : HasPlan K (hulls (selected N ws)) = (dates, subst (λ (M : Network S). Plan K M dates) (sym (own_hulls N ws)) p) in
-      let (entry, done, least, edges) = done_table laws (selected N ws) right has in
-      high_by ws sel has entry least dates p s zs apart (entry i j) refl
-      (high_end laws (selected N ws) right entry least has i j li lj) above
+      let (entry, done, least, edges) = done_table laws (selected N ws) (right ws sel dates p) (dates, own_plan ws sel dates p) in
+      high_by ws sel dates p entry least s zs apart (entry i j) refl
+      (high_end laws (selected N ws) (right ws sel dates p) entry least (dates, own_plan ws sel dates p) i j li lj) above
 
   -- a missing end goes one step beyond
   never_low : (s : S) → LowEnd K N i j (Some s) → LowEnd K N i j None → ⊥
