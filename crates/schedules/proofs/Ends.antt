@@ -9,11 +9,13 @@ use Rattle.networks.specs.Network.{Network}
 use Rattle.networks.specs.Hull.{hulls}
 use Rattle.networks.specs.Plan.{date, Plan, HasPlan}
 use Rattle.networks.specs.Legal.{Legal}
-use Rattle.distances.specs.Distance.{LeastTotals}
+use Rattle.distances.specs.Closing.{Closes}
+use Rattle.distances.specs.Distance.{entry_of, LeastTotals}
 use Rattle.distances.specs.Table.{Table}
 use Rattle.distances.specs.Edges.{opposite_end}
 use Rattle.distances.proofs.Tables.{none_some}
 use Rattle.schedules.specs.Range.{ApartBy, LowEnd, HighEnd}
+use Rattle.schedules.specs.Sweeping.{Swept}
 use Rattle.schedules.proofs.Apart.{furthest, gap, apart_there, comes_by, comes_from}
 use Rattle.schedules.proofs.Between.{total_small, not_above, not_below, between}
 
@@ -111,3 +113,14 @@ module _ {S : Type 0} {K : Kind S} (laws : Laws S K) (N : Network S) (legal : Le
           let (dates, t, plan, apart, high) = up_to s (omega arith) (λ b f. none_some (sym e ∙ f)) in
           let zi = plan.in_reach i li in
           (dates, date K dates i ⊕⟨ K ⟩ s, plan, sum_some laws (date K dates i) s (omega arith), comes_from laws dates i j zi (plan.in_reach j lj) t apart s (omega arith) high)
+
+-- ---- the entries of a closed matrix
+module _ {S : Type 0} {K : Kind S} (laws : Laws S K) (N : Network S) (legal : Legal K N) (i j : ℕ) (li : i < N.points) (lj : j < N.points) where
+  abbrev pub entries : List (Option S) → Option S × Option S
+  entries matrix = (opposite_end K (entry_of N.points matrix j i), entry_of N.points matrix i j)
+
+  pub closed_ends : (matrix : List (Option S)) → Closes K N matrix → Swept K (Plan K (hulls N)) i j (Some (entries matrix))
+  closed_ends matrix closes = (
+    low_end laws N legal (entry_of N.points matrix) closes.least closes.plan i j li lj,
+    high_end laws N legal (entry_of N.points matrix) closes.least closes.plan i j li lj,
+  )

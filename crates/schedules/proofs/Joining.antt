@@ -1,5 +1,5 @@
 -- The ends over two sets of dates are those of each, joined. Assumes nothing.
-use Rattle.std.proofs.Common.{◌≡◌, ℕ, ◌≤◌, Bool, true, false, cond, ◌⊎◌, List, Some, None, Option, refl, inl, inr}
+use Rattle.std.proofs.Common.{◌≡◌, ℕ, ◌≤◌, Bool, true, false, cond, ◌⊎◌, List, Some, None, Option, refl, inl, inr, arith}
 use Rattle.spans.specs.Kind.{Kind, Laws, ◌≤⟨◌⟩◌}
 use Rattle.spans.specs.Order.{lt_le, le_trans}
 use Rattle.schedules.specs.Range.{ApartBy, LowOver, HighOver}
@@ -18,6 +18,12 @@ module _ {S : Type 0} (K : Kind S) (P Q : List S → Type 0) (i j : ℕ) where
   pub swept_same : ((dates : List S) → P dates → Q dates) → ((dates : List S) → Q dates → P dates) → (r : Option (Option S × Option S)) → Swept K P i j r → Swept K Q i j r
   swept_same to back None none = λ dates q. none dates (back dates q)
   swept_same to back (Some x) (low, high) = (low_same to back x.0 low, high_same to back x.1 high)
+
+module _ {S : Type 0} {K : Kind S} (laws : Laws S K) (P : List S → Type 0) (i j : ℕ) where
+  -- where there is an end there are dates
+  pub low_dates : (x : Option S) → LowOver K P i j x → (dates : List S) × P dates
+  low_dates (Some a) (za, (dates, h, apart), low) = (dates, h)
+  low_dates None none = let (dates, x, h, e, low) = none K.zero (omega (arith, laws.zero_size)) in (dates, h)
 
 module _ {S : Type 0} {K : Kind S} (laws : Laws S K) (P Q : List S → Type 0) (i j : ℕ) where
   abbrev pub Either : List S → Type 0

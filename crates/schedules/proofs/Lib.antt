@@ -12,3 +12,4 @@ pub mod Ends
 pub mod OneEnd
 pub mod Joining
 pub mod Sweeps
+pub mod Ranges

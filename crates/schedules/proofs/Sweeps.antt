@@ -17,7 +17,7 @@ use Rattle.schedules.specs.Range.{LowEnd, HighEnd}
 use Rattle.schedules.specs.Sweeping.{joined_ends, Swept, Departs, Through, Sweeping}
 use Rattle.schedules.proofs.Selecting.{chosen_all, chosen_hulls, legal_chosen, plan_selects, selected_plan}
 use Rattle.schedules.proofs.Levels.{down_agrees, selected_front}
-use Rattle.schedules.proofs.Ends.{low_end, high_end}
+use Rattle.schedules.proofs.Ends.{entries, closed_ends}
 use Rattle.schedules.proofs.Joining.{Either, low_same, high_same, swept_same, swept_join}
 
 -- ---- which selections are gone through
@@ -185,21 +185,18 @@ module _ {S : Type 0} {K : Kind S} (laws : Laws S K) (N : Network S) (i j : ℕ)
 
   -- a whole selection: its ends are the entries
   module _ (legal : Legal K N) (li : i < N.points) (lj : j < N.points) (us : List ℕ) (upto : ChosenUpto N us (places 6)) (matrix : List (Option S)) where
-    abbrev pub entries : Option S × Option S
-    entries = (opposite_end K (entry_of N.points matrix j i), entry_of N.points matrix i j)
+    abbrev ends_here : Option S × Option S
+    ends_here = entries laws N legal i j li lj matrix
 
     whole : chosen N us (places 6) ≡ selected N us
     whole = ap (chosen N us) ps.last ∙ chosen_all N us
 
-    leaf_ends : Closes K (chosen N us (places 6)) matrix → Swept K (Plan K (selected N us)) i j (Some entries)
+    leaf_ends : Closes K (chosen N us (places 6)) matrix → Swept K (Plan K (selected N us)) i j (Some ends_here)
     leaf_ends closes =
         let M = chosen N us (places 6) in
         let right : Legal K M = legal_chosen laws N legal us (places 6) (omega (arith, ps.last, upto.long)) upto.there in
         let own : hulls M ≡ selected N us = chosen_hulls N us (places 6) ∙ whole in
-        subst (λ (L : Network S). Swept K (Plan K L) i j (Some entries)) own (
-          low_end laws M right (entry_of N.points matrix) closes.least closes.plan i j li lj,
-          high_end laws M right (entry_of N.points matrix) closes.least closes.plan i j li lj,
-        )
+        subst (λ (L : Network S). Swept K (Plan K L) i j (Some ends_here)) own (closed_ends laws M right i j li lj matrix closes)
 
     -- its numbers are those of a selection, and no other selection agrees with them
     abbrev front : List ℕ
@@ -227,7 +224,7 @@ module _ {S : Type 0} {K : Kind S} (laws : Laws S K) (N : Network S) (i j : ℕ)
         ∙ sym front_selected
 
     pub sweeping_leaf : (ends : Option (Option S × Option S)) (after : List (Option S)) → Sweeping K N i j places 6 us 0 ends matrix
-        → Sweeping K N i j places 6 us 1 (joined_ends K ends (Some entries)) after
+        → Sweeping K N i j places 6 us 1 (joined_ends K ends (Some ends_here)) after
     sweeping_leaf ends after t = record {
       upto = upto;
       swept = swept_same K (Either laws (Through K N us (places 6) 0) (Plan K (selected N us)) i j) (Through K N us (places 6) 1) i j
@@ -241,8 +238,8 @@ module _ {S : Type 0} {K : Kind S} (laws : Laws S K) (N : Network S) (i j : ℕ)
               )
           ])
           (λ dates (vs, s, departs, plan). by_departs dates vs s plan departs)
-          (joined_ends K ends (Some entries))
-          (swept_join laws (Through K N us (places 6) 0) (Plan K (selected N us)) i j ends (Some entries) t.swept (leaf_ends (t.closes refl)));
+          (joined_ends K ends (Some ends_here))
+          (swept_join laws (Through K N us (places 6) 0) (Plan K (selected N us)) i j ends (Some ends_here) t.swept (leaf_ends (t.closes refl)));
       closes = λ e. absurd (omega arith);
     }
       where
