@@ -2,7 +2,7 @@
 --     Goes d i j w a b s         s leads from a to b in the table, or over an edge from i to j of weight w
 --     Added K d i j w e         the table e has for each two points the lesser of both
 --     Free K d i j w            the edge and the way back are not below zero
-use Rattle.std.proofs.Common.{◌≡◌, ℕ, ◌+◌, ◌*◌, ◌<◌, ◌≤◌, ◌⊎◌, Some, None, Option, sym, refl, ap, ◌∙◌, subst, inl, inr, arith}
+use Rattle.std.proofs.Common.{◌≡◌, ℕ, ◌*◌, ◌<◌, ◌≤◌, ◌⊎◌, Some, None, Option, sym, refl, ap, ◌∙◌, subst, inl, inr, arith}
 use Rattle.spans.specs.Kind.{Kind, Laws, reach, ◌≤⟨◌⟩◌}
 use Rattle.spans.specs.Sums.{◌⊕⟨◌⟩◌}
 use Rattle.spans.specs.Order.{lt_le, le_refl, le_trans, le_antisym, le_or_lt}
@@ -22,16 +22,22 @@ module _ {S : Type 0} {K : Kind S} (laws : Laws S K) where
   lesser_of (Some a) None =
       (Some a, record { one = inl refl; first = λ s e. at_most laws (Some a) s s e (le_refl laws); second = λ s e. none_some e })
   lesser_of (Some a) (Some b) = elim (le_or_lt laws a b) [
-    | inl h ↦ (Some a, record {
+    | inl h ↦ (
+      Some a,
+      record {
         one = inl refl;
         first = λ s e. at_most laws (Some a) s s e (le_refl laws);
         second = λ s e. let same : b ≡ s = cc in subst (λ (o : S). a ≤⟨ K ⟩ o) same h;
-      })
-    | inr h ↦ (Some b, record {
+      },
+    )
+    | inr h ↦ (
+      Some b,
+      record {
         one = inr refl;
         first = λ s e. let same : a ≡ s = cc in subst (λ (o : S). b ≤⟨ K ⟩ o) same (lt_le laws h);
         second = λ s e. at_most laws (Some b) s s e (le_refl laws);
-      })
+      },
+    )
   ]
 
 -- ---- the table with the edge

@@ -1,5 +1,5 @@
 -- A distance between two points that the entries both ways allow occurs in some plan of the hulls, and no other does. Assumes nothing.
-use Rattle.std.proofs.Common.{◌≡◌, ℕ, suc, ◌+◌, ◌*◌, ◌<◌, ◌≤◌, List, Some, None, Option, unwrap_or, sym, refl, ap, ◌∙◌, subst, inl, inr, arith}
+use Rattle.std.proofs.Common.{◌≡◌, ℕ, suc, ◌*◌, ◌<◌, ◌≤◌, List, Some, None, Option, unwrap_or, sym, refl, ap, ◌∙◌, subst, inl, inr, arith}
 use Rattle.spans.specs.Kind.{Kind, Laws, reach, ◌≤⟨◌⟩◌}
 use Rattle.spans.specs.Sums.{◌⊕⟨◌⟩◌, ⊖⟨◌⟩◌}
 use Rattle.spans.specs.Order.{le_of_eq, le_trans}
@@ -15,7 +15,6 @@ use Rattle.distances.specs.Distance.{Least, LeastTotals}
 use Rattle.distances.specs.DateRule.{ByDateRule}
 use Rattle.distances.specs.Table.{Table, AtMost, Done}
 use Rattle.distances.specs.Edges.{opposite_end}
-use Rattle.distances.specs.Decided.{Decided}
 use Rattle.distances.proofs.Tables.{none_some, is_there}
 use Rattle.distances.proofs.Chains.{chain_size, route_few}
 use Rattle.distances.proofs.Plans.{KeepsEdges, keeping_plan}

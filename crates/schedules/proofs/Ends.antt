@@ -1,5 +1,5 @@
 -- The ends of the distance between two points over the plans of the hulls: the entry ahead, and the opposite of the entry back. Assumes nothing.
-use Rattle.std.proofs.Common.{◌≡◌, ℕ, suc, ◌<◌, ◌≤◌, List, Some, None, Option, sym, refl, ap, ◌∙◌, subst, inl, inr, arith}
+use Rattle.std.proofs.Common.{◌≡◌, ℕ, suc, ◌<◌, ◌≤◌, List, Some, None, Option, sym, refl, ◌∙◌, subst, inl, inr, arith}
 use Rattle.spans.specs.Kind.{Kind, Laws, ◌≤⟨◌⟩◌}
 use Rattle.spans.specs.Sums.{◌⊕⟨◌⟩◌}
 use Rattle.spans.specs.Order.{lt_le, le_refl, le_trans, le_or_lt}

@@ -1,8 +1,8 @@
 -- The ends over two sets of dates are those of each, joined. Assumes nothing.
-use Rattle.std.proofs.Common.{◌≡◌, ℕ, ◌≤◌, Bool, true, false, cond, ◌⊎◌, List, Some, None, Option, refl, inl, inr, arith}
-use Rattle.spans.specs.Kind.{Kind, Laws, ◌≤⟨◌⟩◌}
+use Rattle.std.proofs.Common.{◌≡◌, ℕ, Bool, true, false, cond, ◌⊎◌, List, Some, None, Option, refl, inl, inr, arith}
+use Rattle.spans.specs.Kind.{Kind, Laws}
 use Rattle.spans.specs.Order.{lt_le, le_trans}
-use Rattle.schedules.specs.Range.{ApartBy, LowOver, HighOver}
+use Rattle.schedules.specs.Range.{LowOver, HighOver}
 use Rattle.schedules.specs.Sweeping.{lower_end, higher_end, joined_ends, Swept}
 
 module _ {S : Type 0} (K : Kind S) (P Q : List S → Type 0) (i j : ℕ) where

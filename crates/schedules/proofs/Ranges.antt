@@ -1,5 +1,5 @@
 -- What the ends of a range mean: with single windows just the distances within them occur; and a network has one range. Assumes nothing.
-use Rattle.std.proofs.Common.{◌≡◌, ℕ, ◌<◌, ◌≤◌, List, Some, None, Option, sym, refl, ap, ◌∙◌, subst, arith, ap₂}
+use Rattle.std.proofs.Common.{◌≡◌, ℕ, ◌<◌, ◌≤◌, List, Some, None, Option, sym, refl, ◌∙◌, subst, arith, ap₂}
 use Rattle.spans.specs.Kind.{Kind, Laws, ◌≤⟨◌⟩◌}
 use Rattle.networks.specs.Limits.{largest_distance}
 use Rattle.networks.specs.Network.{Network}

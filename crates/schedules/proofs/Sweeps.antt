@@ -4,21 +4,18 @@ use native.Mathlib.Decide.{ℕ_discrete}
 use Rattle.std.proofs.lemmas.List.{get_or_past}
 use Rattle.std.proofs.lemmas.Bool.{cases_lt}
 use Rattle.spans.specs.Kind.{Kind, Laws}
-use Rattle.networks.specs.Network.{Condition, Network, condition_at}
+use Rattle.networks.specs.Network.{Condition, Network}
 use Rattle.networks.specs.Hull.{hulls}
-use Rattle.networks.specs.Plan.{Plan, HasPlan}
+use Rattle.networks.specs.Plan.{Plan}
 use Rattle.networks.specs.Selection.{selected, chosen, Selection}
 use Rattle.networks.specs.Legal.{Legal}
 use Rattle.distances.specs.Closing.{Closes}
-use Rattle.distances.specs.Distance.{entry_of}
-use Rattle.distances.specs.Edges.{opposite_end}
 use Rattle.schedules.specs.Choosing.{Agrees, Places, Turns, ChosenUpto, RuledOut, GoesOn}
-use Rattle.schedules.specs.Range.{LowEnd, HighEnd}
 use Rattle.schedules.specs.Sweeping.{joined_ends, Swept, Departs, Through, Sweeping}
 use Rattle.schedules.proofs.Selecting.{chosen_all, chosen_hulls, legal_chosen, plan_selects, selected_plan}
 use Rattle.schedules.proofs.Levels.{down_agrees, selected_front}
 use Rattle.schedules.proofs.Ends.{entries, closed_ends}
-use Rattle.schedules.proofs.Joining.{Either, low_same, high_same, swept_same, swept_join}
+use Rattle.schedules.proofs.Joining.{Either, swept_same, swept_join}
 
 -- ---- which selections are gone through
 -- with more windows gone through
@@ -121,10 +118,15 @@ module _ {S : Type 0} {K : Kind S} (laws : Laws S K) (N : Network S) (i j : ℕ)
     upto = goes.upto;
     swept = swept_same K (Through K N ws (places l) w) (Through K N us (places (suc l)) 0) i j
         (λ dates (vs, s, departs, plan). (vs, s, departs_down N places ps l low ws us vs w goes.agrees goes.number goes.upto departs, plan))
-        (λ dates (vs, s, departs, plan). (vs, s, elim (departs_up N places ps l low ws us vs w goes.agrees goes.number goes.upto 0 departs) [
-          | inl h ↦ h
-          | inr (same, less) ↦ absurd (omega arith)
-        ], plan))
+        (λ dates (vs, s, departs, plan). (
+          vs,
+          s,
+          elim (departs_up N places ps l low ws us vs w goes.agrees goes.number goes.upto 0 departs) [
+            | inl h ↦ h
+            | inr (same, less) ↦ absurd (omega arith)
+          ],
+          plan,
+        ))
         ends t.swept;
     closes = λ e. goes.closes;
   }
@@ -136,13 +138,18 @@ module _ {S : Type 0} {K : Kind S} (laws : Laws S K) (N : Network S) (i j : ℕ)
     upto = t.upto;
     swept = swept_same K (Through K N ws (places l) w) (Through K N ws (places l) (w + 1)) i j
         (λ dates (vs, s, departs, plan). (vs, s, elim departs [ inl h ↦ inl h | inr (same, less) ↦ inr (same, omega arith) ], plan))
-        (λ dates (vs, s, departs, plan). (vs, s, elim departs [
-          | inl h ↦ inl h
-          | inr (same, less) ↦ elim (ℕ_discrete (get_or vs (places l) 0) w) [
-            | yes here ↦ absurd (out vs s same here (dates, plan))
-            | no other ↦ inr (same, omega arith)
-          ]
-        ], plan))
+        (λ dates (vs, s, departs, plan). (
+          vs,
+          s,
+          elim departs [
+            | inl h ↦ inl h
+            | inr (same, less) ↦ elim (ℕ_discrete (get_or vs (places l) 0) w) [
+              | yes here ↦ absurd (out vs s same here (dates, plan))
+              | no other ↦ inr (same, omega arith)
+            ]
+          ],
+          plan,
+        ))
         ends t.swept;
     closes = λ e. absurd (omega arith);
   }
@@ -177,9 +184,9 @@ module _ {S : Type 0} {K : Kind S} (laws : Laws S K) (N : Network S) (i j : ℕ)
       down vs s (inl h) = on vs (inl h)
       down vs s (inr (same, less)) = elim (ℕ_discrete (get_or vs (places l) 0) w) [
         | yes here ↦ inr (
-            down_agrees N places ps l low vs us s goes.upto (λ k lk. same k lk ∙ sym (goes.agrees k lk)) (here ∙ sym goes.number),
-            omega (arith, number_below N vs s (places (suc l)) r turns),
-          )
+          down_agrees N places ps l low vs us s goes.upto (λ k lk. same k lk ∙ sym (goes.agrees k lk)) (here ∙ sym goes.number),
+          omega (arith, number_below N vs s (places (suc l)) r turns),
+        )
         | no other ↦ on vs (inr (same, omega arith))
       ]
 
@@ -231,11 +238,11 @@ module _ {S : Type 0} {K : Kind S} (laws : Laws S K) (N : Network S) (i j : ℕ)
           (λ dates. elim [
             | inl (vs, s, departs, plan) ↦ (vs, s, departs_more us vs (places 6) 0 1 (omega arith) departs, plan)
             | inr plan ↦ (
-                front,
-                front_selection,
-                inr (front_agrees, number_below N front front_selection (places 6) 1 (record { of_condition = λ l. omega (arith, ps.last); past = λ h. refl })),
-                subst (λ (M : Network S). Plan K M dates) front_selected plan,
-              )
+              front,
+              front_selection,
+              inr (front_agrees, number_below N front front_selection (places 6) 1 (record { of_condition = λ l. omega (arith, ps.last); past = λ h. refl })),
+              subst (λ (M : Network S). Plan K M dates) front_selected plan,
+            )
           ])
           (λ dates (vs, s, departs, plan). by_departs dates vs s plan departs)
           (joined_ends K ends (Some ends_here))
