@@ -15,7 +15,7 @@ use Rattle.distances.specs.Table.{Table}
 use Rattle.distances.specs.Edges.{opposite_end}
 use Rattle.distances.proofs.Tables.{none_some}
 use Rattle.schedules.specs.Range.{ApartBy, LowEnd, HighEnd}
-use Rattle.schedules.specs.Sweeping.{Swept}
+use Rattle.schedules.specs.Sweeping.{entry_ends, Swept}
 use Rattle.schedules.proofs.Apart.{furthest, gap, apart_there, comes_by, comes_from}
 use Rattle.schedules.proofs.Between.{total_small, not_above, not_below, between}
 
@@ -116,10 +116,7 @@ module _ {S : Type 0} {K : Kind S} (laws : Laws S K) (N : Network S) (legal : Le
 
 -- ---- the entries of a closed matrix
 module _ {S : Type 0} {K : Kind S} (laws : Laws S K) (N : Network S) (legal : Legal K N) (i j : ℕ) (li : i < N.points) (lj : j < N.points) where
-  abbrev pub entries : List (Option S) → Option S × Option S
-  entries matrix = (opposite_end K (entry_of N.points matrix j i), entry_of N.points matrix i j)
-
-  pub closed_ends : (matrix : List (Option S)) → Closes K N matrix → Swept K (Plan K (hulls N)) i j (Some (entries matrix))
+  pub closed_ends : (matrix : List (Option S)) → Closes K N matrix → Swept K (Plan K (hulls N)) i j (Some (entry_ends K N.points i j matrix))
   closed_ends matrix closes = (
     low_end laws N legal (entry_of N.points matrix) closes.least closes.plan i j li lj,
     high_end laws N legal (entry_of N.points matrix) closes.least closes.plan i j li lj,

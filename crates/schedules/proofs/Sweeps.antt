@@ -11,10 +11,10 @@ use Rattle.networks.specs.Selection.{selected, chosen, Selection}
 use Rattle.networks.specs.Legal.{Legal}
 use Rattle.distances.specs.Closing.{Closes}
 use Rattle.schedules.specs.Choosing.{Agrees, Places, Turns, ChosenUpto, RuledOut, GoesOn}
-use Rattle.schedules.specs.Sweeping.{joined_ends, Swept, Departs, Through, Sweeping}
+use Rattle.schedules.specs.Sweeping.{entry_ends, joined_ends, Swept, Departs, Through, Sweeping}
 use Rattle.schedules.proofs.Selecting.{chosen_all, chosen_hulls, legal_chosen, plan_selects, selected_plan}
-use Rattle.schedules.proofs.Levels.{down_agrees, selected_front}
-use Rattle.schedules.proofs.Ends.{entries, closed_ends}
+use Rattle.schedules.proofs.Levels.{down_agrees, selected_front, turning_begins}
+use Rattle.schedules.proofs.Ends.{closed_ends}
 use Rattle.schedules.proofs.Joining.{Either, swept_same, swept_join}
 
 -- ---- which selections are gone through
@@ -98,17 +98,16 @@ module _ {S : Type 0} (N : Network S) where
               get_or_past vs (places l) 0 (omega (arith, s.one_each)) ∙ sym (upto.zeros (places l) h) ∙ number
 
 module _ {S : Type 0} {K : Kind S} (laws : Laws S K) (N : Network S) (i j : ℕ) (places : ℕ → ℕ) (ps : Places N places) where
-  abbrev Over : List ℕ → ℕ → ℕ → Option (Option S × Option S) → Type 0
-  Over ws place w ends = Swept K (Through K N ws place w) i j ends
-
-  -- the start: nothing is gone through
-  pub sweeping_begins : (start : List ℕ) (matrix : List (Option S)) → ChosenUpto N start (places 0) → Closes K (chosen N start (places 0)) matrix
-      → Sweeping K N i j places 0 start 0 None matrix
-  sweeping_begins start matrix upto closes = record {
-    upto = upto;
-    swept = λ dates (vs, s, departs, plan). none_departs N places ps start vs upto departs;
-    closes = λ e. closes;
-  }
+  -- the start: zeros, the matrix is closed for the hulls, and nothing is gone through
+  pub sweeping_begins : (start : List ℕ) (matrix : List (Option S)) → length N.conditions ≤ length start → ((k : ℕ) → get_or start k 0 ≡ 0)
+      → Closes K (hulls N) matrix → Sweeping K N i j places 0 start 0 None matrix
+  sweeping_begins start matrix long zeros closes =
+      let t = turning_begins N places ps start matrix long zeros closes in
+      record {
+        upto = t.reached.upto;
+        swept = λ dates (vs, s, departs, plan). none_departs N places ps start vs t.reached.upto departs;
+        closes = t.closes;
+      }
 
   -- down: what is gone through is the same
   pub sweeping_down : (l w : ℕ) → l < 6 → (ws us : List ℕ) (ends : Option (Option S × Option S)) (before after : List (Option S))
@@ -192,18 +191,15 @@ module _ {S : Type 0} {K : Kind S} (laws : Laws S K) (N : Network S) (i j : ℕ)
 
   -- a whole selection: its ends are the entries
   module _ (legal : Legal K N) (li : i < N.points) (lj : j < N.points) (us : List ℕ) (upto : ChosenUpto N us (places 6)) (matrix : List (Option S)) where
-    abbrev ends_here : Option S × Option S
-    ends_here = entries laws N legal i j li lj matrix
-
     whole : chosen N us (places 6) ≡ selected N us
     whole = ap (chosen N us) ps.last ∙ chosen_all N us
 
-    leaf_ends : Closes K (chosen N us (places 6)) matrix → Swept K (Plan K (selected N us)) i j (Some ends_here)
+    leaf_ends : Closes K (chosen N us (places 6)) matrix → Swept K (Plan K (selected N us)) i j (Some (entry_ends K N.points i j matrix))
     leaf_ends closes =
         let M = chosen N us (places 6) in
         let right : Legal K M = legal_chosen laws N legal us (places 6) (omega (arith, ps.last, upto.long)) upto.there in
         let own : hulls M ≡ selected N us = chosen_hulls N us (places 6) ∙ whole in
-        subst (λ (L : Network S). Swept K (Plan K L) i j (Some ends_here)) own (closed_ends laws M right i j li lj matrix closes)
+        subst (λ (L : Network S). Swept K (Plan K L) i j (Some (entry_ends K N.points i j matrix))) own (closed_ends laws M right i j li lj matrix closes)
 
     -- its numbers are those of a selection, and no other selection agrees with them
     abbrev front : List ℕ
@@ -230,8 +226,8 @@ module _ {S : Type 0} {K : Kind S} (laws : Laws S K) (N : Network S) (i j : ℕ)
         (λ k l. let lk : k < places 6 = omega (arith, ps.last, s.one_each) in same k lk ∙ sym (front_agrees k lk)))
         ∙ sym front_selected
 
-    pub sweeping_leaf : (ends : Option (Option S × Option S)) (after : List (Option S)) → Sweeping K N i j places 6 us 0 ends matrix
-        → Sweeping K N i j places 6 us 1 (joined_ends K ends (Some ends_here)) after
+    sweeping_leaf : (ends : Option (Option S × Option S)) (after : List (Option S)) → Sweeping K N i j places 6 us 0 ends matrix
+        → Sweeping K N i j places 6 us 1 (joined_ends K ends (Some (entry_ends K N.points i j matrix))) after
     sweeping_leaf ends after t = record {
       upto = upto;
       swept = swept_same K (Either laws (Through K N us (places 6) 0) (Plan K (selected N us)) i j) (Through K N us (places 6) 1) i j
@@ -245,8 +241,8 @@ module _ {S : Type 0} {K : Kind S} (laws : Laws S K) (N : Network S) (i j : ℕ)
             )
           ])
           (λ dates (vs, s, departs, plan). by_departs dates vs s plan departs)
-          (joined_ends K ends (Some ends_here))
-          (swept_join laws (Through K N us (places 6) 0) (Plan K (selected N us)) i j ends (Some ends_here) t.swept (leaf_ends (t.closes refl)));
+          (joined_ends K ends (Some (entry_ends K N.points i j matrix)))
+          (swept_join laws (Through K N us (places 6) 0) (Plan K (selected N us)) i j ends (Some (entry_ends K N.points i j matrix)) t.swept (leaf_ends (t.closes refl)));
       closes = λ e. absurd (omega arith);
     }
       where
@@ -254,6 +250,15 @@ module _ {S : Type 0} {K : Kind S} (laws : Laws S K) (N : Network S) (i j : ℕ)
             → Through K N us (places 6) 0 dates ⊎ Plan K (selected N us) dates
         by_departs dates vs s plan (inl h) = inl (vs, s, inl h, plan)
         by_departs dates vs s plan (inr (same, less)) = inr (subst (λ (M : Network S). Plan K M dates) (alone vs s same) plan)
+
+  -- past the last choice condition: the selection's ends are joined with those so far
+  pub sweeping_found : Legal K N → i < N.points → j < N.points → (w : ℕ) (ws us : List ℕ) (ends : Option (Option S × Option S)) (before mid after : List (Option S))
+      → Sweeping K N i j places 5 ws w ends before → GoesOn K N ws (places 5) w us (places 6) mid
+      → Sweeping K N i j places 5 ws (w + 1) (joined_ends K ends (Some (entry_ends K N.points i j mid))) after
+  sweeping_found legal li lj w ws us ends before mid after t goes =
+      sweeping_through 5 w 1 1 (omega arith) ws us ends (joined_ends K ends (Some (entry_ends K N.points i j mid))) before mid mid after t goes
+      (record { of_condition = λ l. omega (arith, ps.last); past = λ h. refl }) (omega arith)
+      (sweeping_leaf legal li lj us goes.upto mid ends mid (sweeping_down 5 w (omega arith) ws us ends before mid t goes))
 
   -- the end: every selection is gone through, and their plans are those of the network
   pub sweeping_ends : (start : List ℕ) (w r : ℕ) (ends : Option (Option S × Option S)) (matrix : List (Option S)) → Turns N (places 0) r → r ≤ w

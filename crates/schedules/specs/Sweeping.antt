@@ -1,5 +1,6 @@
 -- What the steps of range promise each other: both ends over the selections that are gone through. Assumes nothing.
 -- For the steps of range; what range promises is said without it.
+--     entry_ends K n i j matrix       the opposite of the entry back, and the entry ahead, in a matrix of n rows
 --     lower_end, higher_end           of two ends: missing where one is, else the lesser, or the greater
 --     joined_ends                     both ends of two, where each of the two may have no dates at all
 --     Swept K P i j r                 r has both ends over the dates of which P holds, or is missing where there are none
@@ -11,11 +12,16 @@ use Rattle.spans.specs.Kind.{Kind}
 use Rattle.networks.specs.Network.{Network}
 use Rattle.networks.specs.Plan.{Plan}
 use Rattle.networks.specs.Selection.{selected, chosen, Selection}
+use Rattle.distances.specs.Distance.{entry_of}
+use Rattle.distances.specs.Edges.{opposite_end}
 use Rattle.distances.specs.Closing.{Closes}
 use Rattle.schedules.specs.Choosing.{Agrees, ChosenUpto}
 use Rattle.schedules.specs.Range.{LowOver, HighOver}
 
 module _ {S : Type 0} (K : Kind S) where
+  abbrev pub entry_ends : ℕ → ℕ → ℕ → List (Option S) → Option S × Option S
+  entry_ends n i j matrix = (opposite_end K (entry_of n matrix j i), entry_of n matrix i j)
+
   abbrev pub lower_end : Option S → Option S → Option S
   lower_end None y = None
   lower_end (Some a) None = None
