@@ -8,8 +8,8 @@ mod Descending
 pub mod Apart
 pub mod Adding
 pub mod Between
-pub mod Ends
+pub mod Reaching
 pub mod OneEnd
 pub mod Joining
-pub mod Sweeps
-pub mod Ranges
+pub mod Sweeping
+pub mod Occurring

@@ -20,7 +20,7 @@ use Rattle.distances.proofs.Deciding.{done_table}
 use Rattle.schedules.specs.Range.{ApartBy, LowEnd, HighEnd}
 use Rattle.schedules.proofs.Apart.{gap, apart_there, apart_at_most, apart_at_least}
 use Rattle.schedules.proofs.Selecting.{own_hulls, legal_selected, plan_selects, selected_plan}
-use Rattle.schedules.proofs.Ends.{low_small, high_small, down_to, up_to, low_end, high_end}
+use Rattle.schedules.proofs.Reaching.{low_small, high_small, down_to, up_to, low_end, high_end}
 
 module _ {S : Type 0} {K : Kind S} (laws : Laws S K) (s : S) (near : K.size s ≤ largest_distance) where
   -- one step further, either way

@@ -14,7 +14,7 @@ use Rattle.schedules.specs.Choosing.{Agrees, Places, Turns, ChosenUpto, RuledOut
 use Rattle.schedules.specs.Sweeping.{entry_ends, joined_ends, Swept, Departs, Through, Sweeping}
 use Rattle.schedules.proofs.Selecting.{chosen_all, chosen_hulls, legal_chosen, plan_selects, selected_plan}
 use Rattle.schedules.proofs.Levels.{down_agrees, selected_front, turning_begins}
-use Rattle.schedules.proofs.Ends.{closed_ends}
+use Rattle.schedules.proofs.Reaching.{closed_ends}
 use Rattle.schedules.proofs.Joining.{Either, swept_same, swept_join}
 
 -- ---- which selections are gone through

@@ -11,7 +11,7 @@ use Rattle.distances.proofs.Deciding.{done_table}
 use Rattle.schedules.specs.Range.{ApartBy, LowEnd, HighEnd}
 use Rattle.schedules.specs.Sweeping.{Swept}
 use Rattle.schedules.proofs.Between.{between}
-use Rattle.schedules.proofs.Ends.{low_end, high_end}
+use Rattle.schedules.proofs.Reaching.{low_end, high_end}
 use Rattle.schedules.proofs.OneEnd.{one_low, one_high}
 use Rattle.schedules.proofs.Joining.{low_dates}
 
