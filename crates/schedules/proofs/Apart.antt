@@ -57,13 +57,13 @@ module _ {S : Type 0} {K : Kind S} (laws : Laws S K) (dates : List S) (i j : ℕ
           let zt = sum_size laws (date K dates j) (⊖⟨ K ⟩ x) in
           sym (minus_plus laws (date K dates j) x (omega arith)) ∙ comm laws gap x (omega arith) ∙ ap (λ (o : S). x ⊕⟨ K ⟩ o) (apart_is t apart)
 
-      -- j comes at most a after i exactly where the distance is at most a
+      -- where j comes at most a after i, the distance is at most a
       pub apart_at_most : (a : S) → K.size a ≤ furthest → date K dates j ≤⟨ K ⟩ (date K dates i ⊕⟨ K ⟩ a) → t ≤⟨ K ⟩ a
       apart_at_most a za h =
           rw (apart_is t apart) at
           (take_away laws (date K dates j) a (date K dates i) (omega arith) (rw (comm laws a (date K dates i) (omega arith)) h))
 
-      -- and at least a where it is at least a
+      -- where it comes at least a after i, the distance is at least a
       pub apart_at_least : (a : S) → K.size a ≤ furthest → (date K dates i ⊕⟨ K ⟩ a) ≤⟨ K ⟩ date K dates j → a ≤⟨ K ⟩ t
       apart_at_least a za h =
           let x = date K dates i in
@@ -75,7 +75,7 @@ module _ {S : Type 0} {K : Kind S} (laws : Laws S K) (dates : List S) (i j : ℕ
       apart_size : K.size t ≤ K.size (date K dates j) + K.size (date K dates i)
       apart_size = omega (arith, ap K.size (apart_is t apart), sum_size laws (date K dates j) (⊖⟨ K ⟩ (date K dates i)), opposite_size laws (date K dates i))
 
-      -- i plus a span that is no less, and i plus one that is no greater
+      -- the other way round: j comes at most s after i where the distance is at most s, and at least s where it is at least s
       pub comes_by : (s : S) → K.size s ≤ furthest → t ≤⟨ K ⟩ s → date K dates j ≤⟨ K ⟩ (date K dates i ⊕⟨ K ⟩ s)
       comes_by s zs h =
           subst (λ (y : S). y ≤⟨ K ⟩ (date K dates i ⊕⟨ K ⟩ s)) (sym after_is)

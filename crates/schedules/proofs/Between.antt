@@ -157,7 +157,7 @@ module _ {S : Type 0} {K : Kind S} (laws : Laws S K) (N : Network S) (legal : Le
             (apart_at_least laws dates i j zi zj t apart (⊖⟨ K ⟩ c) (omega arith)
             (take_away laws (date K dates i) (date K dates j) c (omega arith) back))
 
-  -- every other distance occurs
+  -- every distance between the two occurs
   pub between : HasPlan K (hulls N) → (s : S) → K.size s ≤ furthest
       → ((a : S) → opposite_end K (entry j i) ≡ Some a → a ≤⟨ K ⟩ s) → ((a : S) → entry i j ≡ Some a → s ≤⟨ K ⟩ a)
       → (dates : List S) × Plan K (hulls N) dates × ApartBy K dates i j s

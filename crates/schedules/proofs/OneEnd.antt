@@ -22,30 +22,31 @@ use Rattle.schedules.proofs.Apart.{gap, apart_there, apart_at_most, apart_at_lea
 use Rattle.schedules.proofs.Selecting.{own_hulls, legal_selected, plan_selects, selected_plan}
 use Rattle.schedules.proofs.Reaching.{low_small, high_small, down_to, up_to, low_end, high_end}
 
-module _ {S : Type 0} {K : Kind S} (laws : Laws S K) (s : S) (near : K.size s ≤ largest_distance) where
-  -- one step further, either way
-  abbrev pub step_down : S
-  step_down = s ⊕⟨ K ⟩ (⊖⟨ K ⟩ K.step)
+-- ---- one step further, either way
+module _ {S : Type 0} (K : Kind S) where
+  abbrev step_down : S → S
+  step_down s = s ⊕⟨ K ⟩ (⊖⟨ K ⟩ K.step)
 
-  abbrev pub step_up : S
-  step_up = s ⊕⟨ K ⟩ K.step
+  abbrev step_up : S → S
+  step_up s = s ⊕⟨ K ⟩ K.step
 
-  pub step_down_size : K.size step_down ≤ suc (K.size s)
+module _ {S : Type 0} {K : Kind S} (laws : Laws S K) (s : S) where
+  step_down_size : K.size (step_down K s) ≤ suc (K.size s)
   step_down_size = omega (arith, sum_size laws s (⊖⟨ K ⟩ K.step), opposite_size laws K.step, laws.step_size)
 
-  pub step_up_size : K.size step_up ≤ suc (K.size s)
+  step_up_size : K.size (step_up K s) ≤ suc (K.size s)
   step_up_size = omega (arith, sum_size laws s K.step, laws.step_size)
 
-  pub step_down_below : step_down <⟨ K ⟩ s
-  step_down_below =
+  step_down_below : K.size s ≤ largest_distance → step_down K s <⟨ K ⟩ s
+  step_down_below near =
       let z = step_down_size in
       let zz = laws.zero_size in
       let zs = laws.step_size in
-      rw (zero_left laws step_down (omega arith), comm laws K.step step_down (omega arith), minus_plus laws s K.step (omega arith)) at
-      (lt_plus laws K.zero K.step step_down (omega arith) (omega arith) laws.step_above_zero)
+      rw (zero_left laws (step_down K s) (omega arith), comm laws K.step (step_down K s) (omega arith), minus_plus laws s K.step (omega arith)) at
+      (lt_plus laws K.zero K.step (step_down K s) (omega arith) (omega arith) laws.step_above_zero)
 
-  pub step_up_above : s <⟨ K ⟩ step_up
-  step_up_above =
+  step_up_above : K.size s ≤ largest_distance → s <⟨ K ⟩ step_up K s
+  step_up_above near =
       let zz = laws.zero_size in
       let zs = laws.step_size in
       rw (zero_left laws s (omega arith), comm laws K.step s (omega arith)) at
@@ -73,8 +74,8 @@ module _ {S : Type 0} {K : Kind S} (laws : Laws S K) (N : Network S) (legal : Le
           let same : s ≡ a = le_antisym laws (below again a (back_plan again p) q) (low dates s own_plan apart) in
           omega (arith, ap K.size same, low_small laws (selected N ws) right entry least has i j li lj a e)
       low_by None e none below =
-          let z = step_down_size laws s near in
-          let (again, t, p, q, low) = down_to laws (selected N ws) right entry least has i j li lj (step_down laws s near) (omega arith) (λ a f. none_some (sym e ∙ f)) in
+          let z = step_down_size laws s in
+          let (again, t, p, q, low) = down_to laws (selected N ws) right entry least has i j li lj (step_down K s) (omega arith) (λ a f. none_some (sym e ∙ f)) in
           absurd (both_ways _ (le_trans laws (below again t (back_plan again p) q) low) (step_down_below laws s near))
 
       high_by : (x : Option S) → entry i j ≡ x → HighEnd K (hulls (selected N ws)) i j x
@@ -83,8 +84,8 @@ module _ {S : Type 0} {K : Kind S} (laws : Laws S K) (N : Network S) (legal : Le
           let same : s ≡ b = le_antisym laws (high dates s own_plan apart) (above again b (back_plan again p) q) in
           omega (arith, ap K.size same, high_small laws (selected N ws) right entry least has i j li lj b e)
       high_by None e none above =
-          let z = step_up_size laws s near in
-          let (again, t, p, q, high) = up_to laws (selected N ws) right entry least has i j li lj (step_up laws s near) (omega arith) (λ a f. none_some (sym e ∙ f)) in
+          let z = step_up_size laws s in
+          let (again, t, p, q, high) = up_to laws (selected N ws) right entry least has i j li lj (step_up K s) (omega arith) (λ a f. none_some (sym e ∙ f)) in
           absurd (both_ways _ (le_trans laws high (above again t (back_plan again p) q)) (step_up_above laws s near))
 
   -- an end that is present leaves room for one step
@@ -105,28 +106,28 @@ module _ {S : Type 0} {K : Kind S} (laws : Laws S K) (N : Network S) (legal : Le
   -- a missing end goes one step beyond
   never_low : (s : S) → LowEnd K N i j (Some s) → LowEnd K N i j None → ⊥
   never_low s (zs, w, below) none =
-      let z = step_down_size laws s zs in
+      let z = step_down_size laws s in
       let room = present_low_small s (zs, w, below) in
-      let (dates, x, plan, adds, low) = none (step_down laws s zs) (omega arith) in
+      let (dates, x, plan, adds, low) = none (step_down K s) (omega arith) in
       let zi = plan.in_reach i li in
       let zj = plan.in_reach j lj in
       let apart = apart_there laws dates i j zi zj in
-      let is : date K dates i ⊕⟨ K ⟩ step_down laws s zs ≡ x = ap (λ (o : Option S). unwrap_or o K.zero) adds in
-      let least : gap laws dates i j ≤⟨ K ⟩ step_down laws s zs =
-      apart_at_most laws dates i j zi zj (gap laws dates i j) apart (step_down laws s zs) (omega arith) (subst (λ (y : S). date K dates j ≤⟨ K ⟩ y) (sym is) low) in
+      let is : date K dates i ⊕⟨ K ⟩ step_down K s ≡ x = ap (λ (o : Option S). unwrap_or o K.zero) adds in
+      let least : gap laws dates i j ≤⟨ K ⟩ step_down K s =
+      apart_at_most laws dates i j zi zj (gap laws dates i j) apart (step_down K s) (omega arith) (subst (λ (y : S). date K dates j ≤⟨ K ⟩ y) (sym is) low) in
       both_ways _ (le_trans laws (below dates (gap laws dates i j) plan apart) least) (step_down_below laws s zs)
 
   never_high : (s : S) → HighEnd K N i j (Some s) → HighEnd K N i j None → ⊥
   never_high s (zs, w, above) none =
-      let z = step_up_size laws s zs in
+      let z = step_up_size laws s in
       let room = present_high_small s (zs, w, above) in
-      let (dates, x, plan, adds, high) = none (step_up laws s zs) (omega arith) in
+      let (dates, x, plan, adds, high) = none (step_up K s) (omega arith) in
       let zi = plan.in_reach i li in
       let zj = plan.in_reach j lj in
       let apart = apart_there laws dates i j zi zj in
-      let is : date K dates i ⊕⟨ K ⟩ step_up laws s zs ≡ x = ap (λ (o : Option S). unwrap_or o K.zero) adds in
-      let most : step_up laws s zs ≤⟨ K ⟩ gap laws dates i j =
-      apart_at_least laws dates i j zi zj (gap laws dates i j) apart (step_up laws s zs) (omega arith) (subst (λ (y : S). y ≤⟨ K ⟩ date K dates j) (sym is) high) in
+      let is : date K dates i ⊕⟨ K ⟩ step_up K s ≡ x = ap (λ (o : Option S). unwrap_or o K.zero) adds in
+      let most : step_up K s ≤⟨ K ⟩ gap laws dates i j =
+      apart_at_least laws dates i j zi zj (gap laws dates i j) apart (step_up K s) (omega arith) (subst (λ (y : S). y ≤⟨ K ⟩ date K dates j) (sym is) high) in
       both_ways _ (le_trans laws most (above dates (gap laws dates i j) plan apart)) (step_up_above laws s zs)
 
   pub one_low : (x y : Option S) → LowEnd K N i j x → LowEnd K N i j y → x ≡ y

@@ -2,7 +2,7 @@
 --     ApartBy K dates i j s     in these dates j's distance from i is s
 --     LowEnd K N i j x          x is the least distance over all plans of N, or None where plans go below every span that a range tells
 --     HighEnd K N i j x         the greatest likewise
---     LowOver, HighOver         the same over any dates
+--     LowOver K P i j x         the same over the dates of which P holds, and HighOver likewise
 use Rattle.std.specs.Prelude.{◌≡◌, ℕ, ◌≤◌, List, Some, None, Option}
 use Rattle.spans.specs.Kind.{Kind, ◌≤⟨◌⟩◌}
 use Rattle.networks.specs.Limits.{largest_distance}
