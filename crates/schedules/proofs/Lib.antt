@@ -5,3 +5,11 @@ pub mod Firsts
 mod Levels
 mod Placing
 mod Descending
+pub mod Apart
+pub mod Adding
+pub mod Between
+pub mod Reaching
+pub mod OneEnd
+pub mod Joining
+pub mod Sweeping
+pub mod Occurring

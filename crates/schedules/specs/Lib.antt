@@ -1,3 +1,4 @@
 pub mod Solution
 pub mod Range
 pub mod Choosing
+pub mod Sweeping
