@@ -18,4 +18,5 @@ mod Filling
 mod Unfoldings
 mod Searching
 pub mod Endings
-mod Contradictions
+pub mod Contradictions
+pub mod Routes

@@ -5,3 +5,4 @@ pub use crate::cycle::ClosingEdge;
 pub use crate::dates::date_points;
 pub use crate::legal::LegalSource;
 pub use crate::link::Link;
+pub use crate::tightening::tighten_legal;

@@ -12,8 +12,8 @@ use checks::check;
 use networks::{Fault, Lent, MOST_ENTRIES, Source};
 use spans::Span;
 
-// For memory that suffices, as the checks show.
-fn tighten_checked<T: Source>(
+// For a legal source and memory that suffices, as the checks show.
+pub fn tighten_legal<T: Source>(
     source: &LegalSource<T>,
     matrix: &mut [Option<T::Span>],
     cycle: &mut [u16],
@@ -43,5 +43,5 @@ pub(crate) fn tighten_lent<T: Source>(
     ensures networks { NetworksDecided T.Span.Span.kind }
 {
     check(source, lent)?;
-    tighten_checked(&LegalSource::new(source), matrix, cycle)
+    tighten_legal(&LegalSource::new(source), matrix, cycle)
 }

@@ -14,7 +14,7 @@ use Rattle.networks.specs.Selection.{selected, chosen, Selection, Earlier, First
 use Rattle.networks.specs.Legal.{Legal}
 use Rattle.schedules.specs.Choosing.{Agrees, NumbersThere, Lone, NoneWith, NoneBelow}
 use Rattle.schedules.proofs.Selecting.{chosen_all, chosen_hulls, chosen_skips, selected_in_chosen}
-use Rattle.schedules.proofs.Solving.{no_first_no_plan}
+use Rattle.schedules.proofs.OneSolution.{no_first_no_plan}
 
 -- ---- numbers that agree below a place
 pub agrees_set : (ws : List ℕ) (place w : ℕ) → Agrees place (set ws place w) ws

@@ -1,6 +1,6 @@
 pub mod Rising
 pub mod Selecting
-pub mod Solving
+pub mod OneSolution
 pub mod Firsts
 mod Levels
 mod Placing
@@ -13,3 +13,5 @@ pub mod OneEnd
 pub mod Joining
 pub mod Sweeping
 pub mod Occurring
+mod Solves
+mod OneAnswer

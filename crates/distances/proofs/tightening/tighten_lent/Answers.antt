@@ -24,7 +24,7 @@ pub returns : goal.returns
 returns g c =
     let N = g.T.Source.means c.args.source.now in
     record {
-      tightened = after_passing g.T.Span.Span.kind N c.args.matrix.now c.args.cycle.now _ c.tighten_checked.result c.tighten_checked.new.matrix c.tighten_checked.new.cycle
-          (c.in_ok-check.ensures.refusal ∙ ap (checks_refusal g.T.Span.Span.kind N most_conditions) c.requires) (rw c.new.ensures at c.tighten_checked.ensures);
+      tightened = after_passing g.T.Span.Span.kind N c.args.matrix.now c.args.cycle.now _ c.tighten_legal.result c.tighten_legal.new.matrix c.tighten_legal.new.cycle
+          (c.in_ok-check.ensures.refusal ∙ ap (checks_refusal g.T.Span.Span.kind N most_conditions) c.requires) (rw c.new.ensures at c.tighten_legal.ensures);
       networks = λ N legal. (decided g.met.T.Span.Span.lawful N legal, cycle_no_plan g.met.T.Span.Span.lawful N legal);
     }

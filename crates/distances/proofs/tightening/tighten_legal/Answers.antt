@@ -3,7 +3,7 @@ use Rattle.std.proofs.Common.{◌≡◌, ℕ, ◌*◌, sym, refl, ap, subst, ari
 use Rattle.distances.specs.Matrix.{linked}
 use Rattle.distances.specs.Unfolding.{Falls}
 use Rattle.distances.proofs.Contradictions.{entries_few, contradicted, with_number}
-use Rattle.distances.proofs.tightening.tighten_checked.Goals as goal
+use Rattle.distances.proofs.tightening.tighten_legal.Goals as goal
 
 pub give_up-edges-requires : goal.give_up-edges-requires
 give_up-edges-requires g c =
