@@ -8,6 +8,7 @@ use spans::Span;
 
 mod choices;
 mod descent;
+mod ends;
 mod selections;
 mod solving;
 
