@@ -15,3 +15,5 @@ pub mod Sweeping
 pub mod Occurring
 mod Solves
 mod OneAnswer
+mod Ranges
+mod OneRange

@@ -2,9 +2,11 @@
 --     ApartBy K dates i j s     in these dates j's distance from i is s
 --     LowEnd K N i j x          x is the least distance over all plans of N, or None where plans go below every span that a range tells
 --     HighEnd K N i j x         the greatest likewise
+--     Between K x s             the span s is not outside the ends x
 --     LowOver K P i j x         the same over the dates of which P holds, and HighOver likewise
 use Rattle.std.specs.Prelude.{◌≡◌, ℕ, ◌≤◌, List, Some, None, Option}
 use Rattle.spans.specs.Kind.{Kind, ◌≤⟨◌⟩◌}
+use Rattle.networks.specs.declared.window.Window.{Window}
 use Rattle.networks.specs.Limits.{largest_distance}
 use Rattle.networks.specs.Network.{Network}
 use Rattle.networks.specs.Plan.{date, Plan}
@@ -12,6 +14,10 @@ use Rattle.networks.specs.Plan.{date, Plan}
 module _ {S : Type 0} (K : Kind S) where
   abbrev pub ApartBy : List S → ℕ → ℕ → S → Type 0
   ApartBy dates i j s = (a : S) × (K.opposite (date K dates i) ≡ Some a) × (K.plus (date K dates j) a ≡ Some s)
+
+  -- a missing end demands nothing
+  abbrev pub Between : Window S → S → Type 0
+  Between x s = ((a : S) → x.low ≡ Some a → a ≤⟨ K ⟩ s) × ((b : S) → x.high ≡ Some b → s ≤⟨ K ⟩ b)
 
   -- over the dates of which P holds
   module _ (P : List S → Type 0) (i j : ℕ) where

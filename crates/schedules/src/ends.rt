@@ -1,6 +1,7 @@
 // Both ends of the distance between two points over all plans, by nested loops over the windows of the choice conditions. Assumes memory that
 // suffices, points that are there and a matrix that is closed for the hulls, as it requires.
 ghost use Rattle.std.specs.Prelude.{◌≡◌, ◌*◌, ◌<◌, ◌≤◌, length, Some};
+ghost use Rattle.networks.specs.Limits.{most_points};
 ghost use Rattle.networks.specs.Hull.{hulls};
 ghost use Rattle.networks.specs.Plan.{Plan};
 ghost use Rattle.distances.specs.Closing.{Closes};
@@ -30,7 +31,7 @@ fn matrix_ends<S: Span>(
     i: usize,
     j: usize,
 ) -> (Option<S>, Option<S>)
-    requires { (n ≤ 48) × (n * n ≤ length matrix.now) × (i < n) × (j < n) }
+    requires { (n ≤ most_points) × (n * n ≤ length matrix.now) × (i < n) × (j < n) }
     ensures { result ≡ entry_ends S.Span.kind n i j matrix.now }
 {
     (opposite(matrix[j * n + i]), matrix[i * n + j])

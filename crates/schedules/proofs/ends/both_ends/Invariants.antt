@@ -1,5 +1,4 @@
 -- At each level: the ends over what is gone through, and nothing past n×n has changed. Assumes nothing.
-use Rattle.std.proofs.Common.{◌≡◌}
 use Rattle.distances.specs.Matrix.{Rest}
 use Rattle.schedules.specs.Choosing.{place_of}
 use Rattle.schedules.specs.Sweeping.{Sweeping}

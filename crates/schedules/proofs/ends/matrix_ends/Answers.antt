@@ -1,5 +1,5 @@
 -- The two entries are those of the matrix. Assumes nothing.
-use Rattle.std.proofs.Common.{refl, ap, ap₂, ◌∙◌, arith, Option}
+use Rattle.std.proofs.Common.{refl, ap, ap₂, ◌∙◌, arith}
 use Rattle.std.proofs.lemmas.List.{get_or_read_under}
 use Rattle.distances.specs.Edges.{opposite_end}
 use Rattle.distances.proofs.Matrices.{place_below}
