@@ -17,7 +17,7 @@ use Rattle.distances.specs.Memory.{put_first, blanked}
 
 module _ {S : Type 0} (K : Kind S) (N : Network S) (matrix : List (Option S)) (cycle : List ℕ) where
   -- a check refuses: its refusal, and nothing is written
-  pub record RefusedAtOnce (q : Refusal) (r : Result (Unit {0}) Fault) (matrix' : List (Option S)) (cycle' : List ℕ) : Type 0 where
+  pub record RefusedAtOnce {R : Type 0} (q : Refusal) (r : Result R Fault) (matrix' : List (Option S)) (cycle' : List ℕ) : Type 0 where
     pub refusal : refusal_in r ≡ Some q
     pub same_matrix : matrix' ≡ matrix
     pub same_cycle : cycle' ≡ cycle

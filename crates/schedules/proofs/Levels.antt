@@ -15,7 +15,7 @@ use Rattle.schedules.proofs.Firsts.{none_below_none, none_below_agrees, first_fo
 
 module _ {S : Type 0} (N : Network S) (places : ℕ → ℕ) (ps : Places N places) where
   -- a selection and numbers that agree up to a level and at its place agree up to the next
-  down_agrees : (l : ℕ) → l < 6 → (vs us : List ℕ) → Selection N vs → ChosenUpto N us (places (suc l))
+  pub down_agrees : (l : ℕ) → l < 6 → (vs us : List ℕ) → Selection N vs → ChosenUpto N us (places (suc l))
       → Agrees (places l) vs us → get_or vs (places l) 0 ≡ get_or us (places l) 0 → Agrees (places (suc l)) vs us
   down_agrees l low vs us s upto agrees here k lk = elim (cases_lt k (places l)) [
     | inl below ↦ agrees k below
@@ -28,7 +28,7 @@ module _ {S : Type 0} (N : Network S) (places : ℕ → ℕ) (ps : Places N plac
   ]
 
 -- numbers past the last condition do not matter
-selected_front : {S : Type 0} (cs : List (Condition S)) (us : List ℕ) → length cs ≤ length us
+pub selected_front : {S : Type 0} (cs : List (Condition S)) (us : List ℕ) → length cs ≤ length us
     → selected_conditions cs us ≡ selected_conditions cs (take (length cs) us)
 selected_front [] us h = refl
 selected_front (c ∷ cs) [] h = absurd (omega arith)

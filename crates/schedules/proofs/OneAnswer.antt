@@ -30,13 +30,13 @@ module _ {S : Type 0} {K : Kind S} (laws : Laws S K) (N : Network S) where
     answered_alike : (r s : Result (Unit {0}) Fault) → One r → Other s → AlikeAnswers N.points r s dated again
     answered_alike (Ok x) (Ok y) a b = one_solution laws N (take N.points dated) (take N.points again) a.solution b.solution
     answered_alike (Ok x) (Err g) a (inl (edges, e, b, same)) = b.no_plan (hulls_have_plan laws N a.legal (take N.points dated, a.plan))
-    answered_alike (Ok x) (Err g) a (inr (e, b)) = b.no_plan (take N.points dated, a.plan)
+    answered_alike (Ok x) (Err g) a (inr (e, b, same)) = b.no_plan (take N.points dated, a.plan)
     answered_alike (Err f) (Ok y) (inl (edges, e, a, same)) b = a.no_plan (hulls_have_plan laws N b.legal (take N.points again, b.plan))
-    answered_alike (Err f) (Ok y) (inr (e, a)) b = a.no_plan (take N.points again, b.plan)
+    answered_alike (Err f) (Ok y) (inr (e, a, same)) b = a.no_plan (take N.points again, b.plan)
     answered_alike (Err f) (Err g) (inl (edges, e, a, same)) (inl (more, h, b, also)) = inr (edges, more, e, h)
-    answered_alike (Err f) (Err g) (inl (edges, e, a, same)) (inr (h, b)) = absurd (a.no_plan b.hulls_plan)
-    answered_alike (Err f) (Err g) (inr (e, a)) (inl (more, h, b, also)) = absurd (b.no_plan a.hulls_plan)
-    answered_alike (Err f) (Err g) (inr (e, a)) (inr (h, b)) = inl (ap refusal_of (e ∙ sym h))
+    answered_alike (Err f) (Err g) (inl (edges, e, a, same)) (inr (h, b, also)) = absurd (a.no_plan b.hulls_plan)
+    answered_alike (Err f) (Err g) (inr (e, a, same)) (inl (more, h, b, also)) = absurd (b.no_plan a.hulls_plan)
+    answered_alike (Err f) (Err g) (inr (e, a, same)) (inr (h, b, also)) = inl (ap refusal_of (e ∙ sym h))
 
     checked_alike : (x : Option Refusal) (r s : Result (Unit {0}) Fault) → AfterChecks K N matrix cycle dates x r left turned dated
         → AfterChecks K N other_matrix other_cycle other_dates x s other_left other_turned again → AlikeAnswers N.points r s dated again

@@ -67,6 +67,12 @@ module _ {S : Type 0} where
   same_network M N e l h =
       ap₂ (λ (n : ℕ) (cs : List (Condition S)). record { points = n; conditions = cs }) e (ext_get_or no_condition M.conditions N.conditions l h)
 
+  -- so a network whose conditions have at most one window is its own hulls
+  pub few_hulls : (N : Network S) → ((k : ℕ) → k < length N.conditions → length (condition_at N k).windows ≤ 1) → hulls N ≡ N
+  few_hulls N few =
+      let same = length-map N.conditions hull in
+      same_network (hulls N) N refl same (λ k l. hull_at N k ∙ own_hull (condition_at N k) (few k (omega arith)))
+
 module _ {S : Type 0} (N : Network S) (ws : List ℕ) where
   -- nothing is chosen yet
   pub chosen_none : chosen N ws 0 ≡ hulls N
@@ -96,9 +102,7 @@ module _ {S : Type 0} (N : Network S) (ws : List ℕ) where
 
     -- each condition has at most one window
     pub chosen_hulls : hulls (chosen N ws place) ≡ chosen N ws place
-    chosen_hulls =
-        same_network (hulls (chosen N ws place)) (chosen N ws place) refl (length-map (chosen N ws place).conditions hull)
-        (λ k l. hull_at (chosen N ws place) k ∙ own_hull (condition_at (chosen N ws place) k) (chosen_few k))
+    chosen_hulls = few_hulls (chosen N ws place) (λ k l. chosen_few k)
 
     -- a condition with a single window is no choice
     pub chosen_skip : place < length N.conditions → length (condition_at N place).windows ≡ 1 → get_or ws place 0 ≡ 0 → place < length ws

@@ -69,7 +69,7 @@ module _ {S : Type 0} {K : Kind S} (N : Network S) where
         hulls_plan = tight.plan;
         no_plan = none;
         same_cycle = tight.same_cycle;
-        same_dates = same;
         blank = blanked_after N.points matrix used matrix' (rest ∙ tight.rest) blank;
       },
+      same,
     )

@@ -7,14 +7,14 @@ use Rattle.networks.specs.declared.fault.Fault.{Fault}
 use Rattle.networks.specs.declared.fault.Fault.TheVariants.{Cycle, NoPlan}
 use Rattle.networks.specs.Limits.{most_conditions}
 use Rattle.networks.specs.Network.{Network}
-use Rattle.networks.specs.Hull.{hulls}
-use Rattle.networks.specs.Plan.{Plan, HasPlan}
+use Rattle.networks.specs.Plan.{Plan}
 use Rattle.networks.specs.Legal.{Legal}
 use Rattle.networks.specs.Refusal.{Refusal, checks_refusal}
 use Rattle.networks.specs.Faults.{refusal_of}
 use Rattle.distances.specs.Memory.{blanked}
 use Rattle.distances.specs.Tightening.{RefusedAtOnce, Contradicted}
 use Rattle.schedules.specs.Solution.{Solution}
+use Rattle.schedules.specs.Unmet.{Unmet}
 
 module _ {S : Type 0} (K : Kind S) (N : Network S) (matrix : List (Option S)) (cycle : List ℕ) (dates : List S) where
   -- granted: the first n dates are the solution, which is a plan, the rest as it was, and the matrix is blank
@@ -26,21 +26,12 @@ module _ {S : Type 0} (K : Kind S) (N : Network S) (matrix : List (Option S)) (c
     pub same_cycle : cycle' ≡ cycle
     pub blank : matrix' ≡ blanked N.points matrix
 
-  -- refused with 11: some plan meets the hulls and none the conditions, and the matrix is blank
-  pub record Unmet (matrix' : List (Option S)) (cycle' : List ℕ) (dates' : List S) : Type 0 where
-    pub legal : Legal K N
-    pub hulls_plan : HasPlan K (hulls N)
-    pub no_plan : HasPlan K N → ⊥
-    pub same_cycle : cycle' ≡ cycle
-    pub same_dates : dates' ≡ dates
-    pub blank : matrix' ≡ blanked N.points matrix
-
-  -- past the checks: the solution, or 10 as tighten has it and no date written, or 11
+  -- past the checks: the solution, or 10 as tighten has it, or 11, and no date written
   abbrev pub Answers : Result (Unit {0}) Fault → List (Option S) → List ℕ → List S → Type 0
   Answers (Ok x) matrix' cycle' dates' = Solved matrix' cycle' dates'
   Answers (Err f) matrix' cycle' dates' =
       ((edges : ℕ) × (f ≡ Cycle edges) × Contradicted K N matrix cycle edges matrix' cycle' × (dates' ≡ dates))
-      ⊎ ((f ≡ NoPlan) × Unmet matrix' cycle' dates')
+      ⊎ ((f ≡ NoPlan) × Unmet K N matrix cycle matrix' cycle' × (dates' ≡ dates))
 
   -- by what the checks 1 to 8 say
   abbrev pub AfterChecks : Option Refusal → Result (Unit {0}) Fault → List (Option S) → List ℕ → List S → Type 0

@@ -14,7 +14,7 @@ use networks::{MOST_CONDITIONS, Source};
 use spans::Span;
 
 // The first window of each condition.
-fn first_windows() -> [u8; MOST_CONDITIONS]
+pub(crate) fn first_windows() -> [u8; MOST_CONDITIONS]
     ensures long { length result ≡ 64 }
     ensures zeros { (k : ℕ) → slice_index result k ≡ 0 }
 {

@@ -5,10 +5,10 @@ ghost use Rattle.networks.specs.Plan.{HasPlan};
 ghost use Rattle.networks.specs.declared.fault.Fault.TheVariants.{NoPlan};
 ghost use Rattle.distances.specs.Closing.{Closes};
 ghost use Rattle.distances.specs.Matrix.{Rest};
-ghost use Rattle.distances.specs.Memory.{blanked};
 ghost use Rattle.schedules.specs.Solution.{Solution};
 ghost use Rattle.schedules.specs.Solving.{Answers, Solves};
 
+use crate::blanking::blank;
 use crate::choices::choice_places;
 use crate::selections::first_selection;
 use checks::check;
@@ -16,14 +16,6 @@ use distances::inner::{LegalSource, Link, date_points, tighten_legal};
 use layers::Selected;
 use networks::{Fault, Lent, MOST_ENTRIES, Source};
 use spans::Span;
-
-// Leaves the first n×n entries blank.
-fn blank<S: Span>(matrix: &mut [Option<S>], n: usize)
-    requires { n * n ≤ length matrix.old }
-    ensures { matrix.new ≡ blanked n matrix.old }
-{
-    matrix[..n * n].fill(None);
-}
 
 // Writes the dates of the first selection that has a plan, where there is one. The matrix is closed for the hulls, and then of no use.
 fn solve_closed<T: Source>(
