@@ -1,8 +1,10 @@
-// What solve answers on worked networks: dates, refusals, and memory that stays as it was.
+// What solve and range answer on worked networks: dates, ends, refusals, and memory that stays as it was.
 #![tactic(auto)]
 
 #[cfg(test)]
 mod memory;
+#[cfg(test)]
+mod ranged;
 #[cfg(test)]
 mod solved;
 #[cfg(test)]
