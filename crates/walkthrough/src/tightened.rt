@@ -152,17 +152,18 @@ fn tell_tightened<T: Source<Span = Minutes>>(rt: &HostRuntime, job: &T) -> io::R
     }
 }
 
-// The job's 8 conditions and one more, the last: the second vessel berths 450 minutes after the first one sails.
-fn with_early_vessel(job: &ListText) -> [Row<Minutes>; 9] {
-    let berths = Window::at_most(Minutes::from(450));
-    let mut rows = [Row::new(0, 6, &[berths]); 9];
+// The job's 8 conditions, and one more as the last.
+pub(crate) fn with_one_more(job: &ListText, more: Row<Minutes>) -> [Row<Minutes>; 9] {
+    let mut rows = [more; 9];
     let _ = job.fill(0, &mut rows[0..8]);
     rows
 }
 
 fn tell_early_vessel(rt: &HostRuntime, job: &ListText) -> io::Result<()> {
     println!(rt; "Now the second vessel is to berth earlier, which is one condition more:")?;
-    let rows = with_early_vessel(job);
+    // The second vessel berths 450 minutes after the first one sails.
+    let berths = Window::at_most(Minutes::from(450));
+    let rows = with_one_more(job, Row::new(0, 6, &[berths]));
     let early = Rows::from_rows(POINTS, &rows);
     tell_condition(rt, &early, 8)?;
     tell_tightened(rt, &early)
