@@ -1,6 +1,6 @@
 -- How far apart two points lie in plans. Assumes nothing.
 --     ApartBy K dates i j s     in these dates j's distance from i is s
---     LowEnd K N i j x          x is the least distance over all plans of N, or None where plans go below every span that a range tells
+--     LowEnd K N i j x          x is the least distance over all plans of N, or None where for every span of size at most 2^30 some plan puts j at or below i plus it
 --     HighEnd K N i j x         the greatest likewise
 --     Between K x s             the span s is not outside the ends x
 --     LowOver K P i j x         the same over the dates of which P holds, and HighOver likewise

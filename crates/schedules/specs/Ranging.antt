@@ -1,6 +1,6 @@
 -- What range answers and what it leaves in lent memory. Assumes nothing.
 --     Ranges K N i j matrix cycle r matrix' cycle'     answer r and memory matrix', cycle' after a call for the points i and j with matrix and cycle
---     RangesOnce K                                      two calls for two points of a network answer alike, whatever lay in the memory
+--     RangesOnce K                                      any two answers that `Ranges` allows for two points of a network and memory of these lengths are alike
 use Rattle.std.specs.Prelude.{◌≡◌, ℕ, ◌<◌, ◌≤◌, ◌&&◌, ◌⊎◌, List, length, Some, None, Ok, Err, Option, Result, nat_lt}
 use Rattle.spans.specs.Kind.{Kind}
 use Rattle.networks.specs.declared.fault.Fault.{Fault}
@@ -17,7 +17,7 @@ use Rattle.schedules.specs.Range.{ApartBy, Between, LowEnd, HighEnd}
 use Rattle.schedules.specs.Solving.{AlikeFaults}
 use Rattle.schedules.specs.Unmet.{Unmet}
 
--- what the ends x tell of j's distance from i: it is not outside them in any plan; and where no condition has two windows, every distance
+-- what the ends x tell of j's distance from i: it is not outside them in any plan, which follows from the ends and is said for the reader; and where no condition has two windows, every distance
 -- within them that a range can tell is that of some plan
 pub record Tells {S : Type 0} (K : Kind S) (N : Network S) (i j : ℕ) (x : Window S) : Type 0 where
   pub low : LowEnd K N i j x.low

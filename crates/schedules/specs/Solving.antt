@@ -1,6 +1,6 @@
 -- What solve answers and what it leaves in lent memory. Assumes nothing.
 --     Solves K N matrix cycle dates r matrix' cycle' dates'     answer r and memory matrix', cycle', dates' after a call with matrix, cycle and dates
---     SolvesOnce K                                               two calls on a network answer alike, whatever lay in the memory
+--     SolvesOnce K                                               any two answers that `Solves` allows for a network and memory of these lengths are alike
 use Rattle.std.specs.Prelude.{◌≡◌, ℕ, ◌⊎◌, List, length, take, drop, Some, None, Ok, Err, Option, Result}
 use Rattle.spans.specs.Kind.{Kind}
 use Rattle.networks.specs.declared.fault.Fault.{Fault}

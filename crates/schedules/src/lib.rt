@@ -18,8 +18,9 @@ mod solving;
 use ranging::range_lent;
 use solving::solve_lent;
 
-// Solves the conditions of any source. Granted, the first n dates meet them all: those of the date rule on the first selection that has a plan.
-// Refused with 1 to 8, nothing is written; with 10, no plan meets the hulls, and the codes of a cycle below zero stand at the front of the
+// Solves the conditions of any source, of n points. It takes n×n matrix entries, n codes and n dates.
+// Granted, the first n dates meet all conditions: those of the date rule on the first selection that has a plan. At any refusal no date is written.
+// Refused with 1 to 8, nothing is; with 10, no plan meets the hulls, and the codes of a cycle below zero stand at the front of the
 // cycle memory; with 11, the hulls admit a plan and the conditions none. Past the checks, the first n×n entries of the matrix are left blank.
 pub fn solve<T: Source>(
     source: &T,
@@ -38,10 +39,10 @@ pub fn solve<T: Source>(
     solve_lent(source, lent, matrix, cycle, dates)
 }
 
-// How far apart two points can be: the least and the greatest distance of point j from point i over all plans, each missing where plans go
-// beyond every distance that is told. Refused with 1 to 9, nothing is written; with 10, no plan meets the hulls, and the codes of a cycle
-// below zero stand at the front of the cycle memory; with 11, the hulls admit a plan and the conditions none. Past the checks, the first n×n
-// entries of the matrix are left blank.
+// How far apart two points can be: the least and the greatest distance of point j from point i over all plans, each missing where for every
+// span of size up to 2^30 some plan goes at least so far. For n points it takes n×n matrix entries and n codes.
+// Refused with 1 to 9, nothing is written; with 10, no plan meets the hulls, and the codes of a cycle below zero stand at the front of the
+// cycle memory; with 11, the hulls admit a plan and the conditions none. Past the checks, the first n×n entries of the matrix are left blank.
 pub fn range<T: Source>(
     source: &T,
     i: usize,
