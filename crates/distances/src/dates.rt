@@ -1,5 +1,5 @@
 // Dates by the date rule: points get their dates in order of number, from the dates before them and the entries of a matrix.
-ghost use Rattle.std.specs.Prelude.{◌≡◌, ℕ, ◌*◌, ◌<◌, ◌≤◌, length, take, drop};
+ghost use Rattle.std.specs.Prelude.{◌≡◌, ℕ, ◌*◌, ◌<◌, ◌≤◌, if◌then◌else◌, length, take, drop};
 ghost use Rattle.networks.specs.Limits.{most_points, largest_date};
 ghost use Rattle.networks.specs.Hull.{hulls};
 ghost use Rattle.networks.specs.Plan.{date, Plan};
@@ -15,6 +15,20 @@ use crate::legal::LegalSource;
 use crate::matrix::entry;
 use networks::Source;
 use spans::Span;
+
+// The later of two dates; the first where they are alike. By the kind's own order: a kind need not have `Ord`, so no `max` here.
+fn later<S: Span>(a: S, b: S) -> S
+    ensures { result ≡ (if S.Span.kind.less a b then b else a) }
+{
+    if a.is_less(b) { b } else { a }
+}
+
+// The earlier of two dates; the first where they are alike.
+fn earlier<S: Span>(a: S, b: S) -> S
+    ensures { result ≡ (if S.Span.kind.less b a then b else a) }
+{
+    if b.is_less(a) { b } else { a }
+}
 
 // The date of point p is due, and the points before it have theirs: entries and dates are small enough for every sum and difference to be there.
 #[derive(Drop)]
@@ -49,18 +63,22 @@ impl<S: Span> Dating<'_, S> {
     }
 
     // The greatest of the dates that p is not to be earlier than, from the points before it.
-    // Kept beside least_latest: one function of both would take the offer and the pick as closures, which is longer than these two lines.
+    // Kept beside least_latest: one function of both would take the offer and the pick as closures, which is longer than this chain.
     fn greatest_earliest(&self) -> Option<S>
         ensures { GreatestSoFar S.Span.kind (table self.now.n self.now.matrix.now) self.now.dates.now self.now.p self.now.p result }
     {
-        (0..self.p).filter_map(|q| self.earliest_from(q)).max()
+        (0..self.p)
+            .filter_map(|q| self.earliest_from(q))
+            .reduce(|a, b| later(a, b))
     }
 
     // The least of the dates that p is not to be later than, from the points before it.
     fn least_latest(&self) -> Option<S>
         ensures { LeastSoFar S.Span.kind (table self.now.n self.now.matrix.now) self.now.dates.now self.now.p self.now.p result }
     {
-        (0..self.p).filter_map(|q| self.latest_from(q)).min()
+        (0..self.p)
+            .filter_map(|q| self.latest_from(q))
+            .reduce(|a, b| earlier(a, b))
     }
 
     // The greatest earliest date, else the least latest one, else zero.

@@ -7,4 +7,4 @@ mod span;
 
 pub use minutes::Minutes;
 pub use pair::{MinuteRank, Pair};
-pub use span::{REACH, Span};
+pub use span::{Ordered, REACH, Span};

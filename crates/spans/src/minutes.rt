@@ -3,7 +3,7 @@ ghost use Rattle.std.specs.Prelude.{◌≡◌};
 ghost use Rattle.spans.specs.MinuteKind.{minute_kind};
 ghost use Rattle.spans.specs.MinuteLaws.{minute_laws, minute_within, minute_ordered};
 
-use crate::span::{REACH, Span};
+use crate::span::{Ordered, REACH, Span};
 
 #[derive(Clone, Copy, Debug, PartialEq, Eq, PartialOrd, Ord, Hash)]
 pub struct Minutes {
@@ -25,8 +25,6 @@ impl Span for Minutes {
 
     ghost within = { minute_within };
 
-    ghost ordered = { minute_ordered };
-
     fn zero() -> Minutes
         ensures { result ≡ minute_kind.zero }
     {
@@ -43,6 +41,12 @@ impl Span for Minutes {
         ensures { result ≡ minute_kind.size self }
     {
         self.count.unsigned_abs()
+    }
+
+    fn is_less(self, other: Minutes) -> bool
+        ensures { result ≡ minute_kind.less self other }
+    {
+        self.count < other.count
     }
 
     fn sum(self, other: Minutes) -> Option<Minutes>
@@ -68,4 +72,8 @@ impl Span for Minutes {
             None
         }
     }
+}
+
+impl Ordered for Minutes {
+    ghost ordered = { minute_ordered };
 }

@@ -4,7 +4,7 @@ ghost use Rattle.spans.specs.PairKind.{pair_kind};
 ghost use Rattle.spans.specs.PairLaws.{pair_laws, pair_within, pair_ordered};
 
 use crate::minutes::Minutes;
-use crate::span::{REACH, Span};
+use crate::span::{Ordered, REACH, Span};
 
 #[derive(Clone, Copy, Debug, PartialEq, Eq, PartialOrd, Ord, Hash)]
 pub struct Pair<A, B> {
@@ -34,8 +34,6 @@ impl<A: Span, B: Span> Span for Pair<A, B> {
 
     ghost within = { pair_within A.Span.kind B.Span.kind A.Span.within B.Span.within };
 
-    ghost ordered = { pair_ordered A.Span.kind B.Span.kind A.Ord.cmp B.Ord.cmp A.Ord.total A.Span.ordered B.Span.ordered };
-
     fn zero() -> Pair<A, B>
         ensures { result ≡ (pair_kind A.Span.kind B.Span.kind).zero }
     {
@@ -60,6 +58,18 @@ impl<A: Span, B: Span> Span for Pair<A, B> {
         self.first.size().max(self.second.size())
     }
 
+    fn is_less(self, other: Pair<A, B>) -> bool
+        ensures { result ≡ (pair_kind A.Span.kind B.Span.kind).less self other }
+    {
+        if self.first.is_less(other.first) {
+            return true;
+        }
+        if other.first.is_less(self.first) {
+            return false;
+        }
+        self.second.is_less(other.second)
+    }
+
     fn sum(self, other: Pair<A, B>) -> Option<Pair<A, B>>
         ensures { result ≡ (pair_kind A.Span.kind B.Span.kind).plus self other }
     {
@@ -80,4 +90,8 @@ impl<A: Span, B: Span> Span for Pair<A, B> {
         let second = self.second.opposite()?;
         Some(Pair { first, second })
     }
+}
+
+impl<A: Ordered, B: Ordered> Ordered for Pair<A, B> {
+    ghost ordered = { pair_ordered A.Span.kind B.Span.kind A.Ord.cmp B.Ord.cmp A.Ord.total A.Ordered.ordered B.Ordered.ordered };
 }

@@ -5,8 +5,7 @@ ghost use Rattle.spans.specs.Kind.{Kind, Laws, OnlyWithin, OrderedBy};
 // The two parts of a sum have at most this size together, and a span with an opposite has at most this size: 2^42.
 pub const REACH: u64 = 1 << 42;
 
-// The order of `Ord` is that of the kind.
-pub trait Span: Copy + Ord {
+pub trait Span: Copy {
     ghost kind: { Kind Self };
 
     fn zero() -> Self
@@ -19,6 +18,9 @@ pub trait Span: Copy + Ord {
     fn size(self) -> u64
         ensures { result ≡ kind.size self };
 
+    fn is_less(self, other: Self) -> bool
+        ensures { result ≡ kind.less self other };
+
     // None where the sum is not there.
     fn sum(self, other: Self) -> Option<Self>
         ensures { result ≡ kind.plus self other };
@@ -27,16 +29,12 @@ pub trait Span: Copy + Ord {
     fn opposite(self) -> Option<Self>
         ensures { result ≡ kind.opposite self };
 
-    // The same as `<`, said in the kind's own words.
-    final fn is_less(self, other: Self) -> bool
-        ensures { result ≡ kind.less self other }
-    {
-        self < other
-    }
-
     ghost lawful: { Laws Self kind };
 
     ghost within: { OnlyWithin Self kind };
+}
 
-    ghost ordered: { OrderedBy kind Self.cmp };
+// A kind whose order is that of `<`. A kind need not be one: what is here asks spans by `is_less`.
+pub trait Ordered: Span + Ord {
+    ghost ordered: { OrderedBy Self.Span.kind Self.cmp };
 }

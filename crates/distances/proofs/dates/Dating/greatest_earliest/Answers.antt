@@ -8,7 +8,7 @@ use Rattle.distances.specs.Limits.{largest_total}
 use Rattle.distances.specs.Matrix.{table}
 use Rattle.distances.specs.Steps.{earliest, GreatestSoFar}
 use Rattle.distances.proofs.Dating.{greatest_of}
-use Rattle.distances.proofs.Picked.{greatest_is}
+use Rattle.distances.proofs.Picked.{picked_is}
 use Rattle.distances.proofs.dates.Dating.greatest_earliest.Goals as goal
 
 pub returns : goal.returns
@@ -16,9 +16,9 @@ returns g c =
     let K = g.S.Span.kind in
     let it = c.args.self.now in
     let d = table it.n it.matrix.now in
-    let same : c.max.result
+    let same : c.reduce.result
     ≡ reduce (λ x y. cond (K.less x y) y x) (filter_map (λ q. earliest K (date K it.dates.now q) (d it.p q)) (range_with_len 0 it.p)) =
-    greatest_is g.met.S.Span.lawful g.met.S.Ord.total g.met.S.Span.ordered _ c.max.result c.max.ensures.ran
+    picked_is _ (λ x y. cond (K.less x y) y x) _ (λ a x b q k. search (rules, tests)) _ c.reduce.result c.reduce.ensures.ran
     (YieldsList-from_filter_map _ (λ q. earliest K (date K it.dates.now q) (d it.p q))
     (YieldsList-from_range 0 it.p it.p c.filter_map.ensures.source (omega arith)) c.filter_map.ensures.closure
     (λ x r q k. search (rules, tests))) in

@@ -8,7 +8,7 @@ use Rattle.distances.specs.Limits.{largest_total}
 use Rattle.distances.specs.Matrix.{table}
 use Rattle.distances.specs.Steps.{latest, LeastSoFar}
 use Rattle.distances.proofs.Dating.{least_of}
-use Rattle.distances.proofs.Picked.{least_is}
+use Rattle.distances.proofs.Picked.{picked_is}
 use Rattle.distances.proofs.dates.Dating.least_latest.Goals as goal
 
 pub returns : goal.returns
@@ -16,9 +16,9 @@ returns g c =
     let K = g.S.Span.kind in
     let it = c.args.self.now in
     let d = table it.n it.matrix.now in
-    let same : c.min.result
+    let same : c.reduce.result
     ≡ reduce (λ x y. cond (K.less y x) y x) (filter_map (λ q. latest K (date K it.dates.now q) (d q it.p)) (range_with_len 0 it.p)) =
-    least_is g.met.S.Span.lawful g.met.S.Ord.total g.met.S.Span.ordered _ c.min.result c.min.ensures.ran
+    picked_is _ (λ x y. cond (K.less y x) y x) _ (λ a x b q k. search (rules, tests)) _ c.reduce.result c.reduce.ensures.ran
     (YieldsList-from_filter_map _ (λ q. latest K (date K it.dates.now q) (d q it.p))
     (YieldsList-from_range 0 it.p it.p c.filter_map.ensures.source (omega arith)) c.filter_map.ensures.closure
     (λ x r q k. search (rules, tests))) in
