@@ -87,21 +87,24 @@ impl Edge {
     }
 }
 
-// The edge, where it is the least so far.
+// The edge, where it is the least so far. Its two points come with it, since both edges of a condition have them.
 fn put_edge<T: Source>(
     source: &LegalSource<T>,
     edge: Edge,
+    from: usize,
+    to: usize,
     matrix: &mut [Option<T::Span>],
     links: &mut [Link],
 )
     requires there { condition_of edge < length source.now.conditions }
+    requires points { (from ≡ leaves source.now edge) × (to ≡ reaches source.now edge) }
     requires room { (source.now.points * source.now.points ≤ length matrix.old) × (source.now.points * source.now.points ≤ length links.old) }
     ensures filled { (edges : ℕ → ℕ → Coded T.Span) → Filled source.now.points edges matrix.old links.old
         → Filled source.now.points (λ i j. lesser T.Span.Span.kind (edges i j) (edge_at T.Span.Span.kind source.now edge i j)) matrix.new links.new }
     ensures rest { Rest source.now.points matrix.old matrix.new }
 {
     let asked = source.get();
-    let at = place(source.points(), edge.leaves(asked), edge.reaches(asked));
+    let at = place(source.points(), from, to);
     improve(
         matrix,
         links,
@@ -124,8 +127,11 @@ fn put_condition<T: Source>(
     ensures filled { Filled source.now.points (least_edge T.Span.Span.kind source.now (suc k)) matrix.new links.new }
     ensures rest { Rest source.now.points matrix.old matrix.new }
 {
-    put_edge(source, Edge::Forward(k), matrix, links);
-    put_edge(source, Edge::Back(k), matrix, links);
+    let asked = source.get();
+    let from = asked.from(k);
+    let to = asked.to(k);
+    put_edge(source, Edge::Forward(k), from, to, matrix, links);
+    put_edge(source, Edge::Back(k), to, from, matrix, links);
 }
 
 // Zero from each point to itself.

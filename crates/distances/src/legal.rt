@@ -10,6 +10,8 @@ use std::marker::Model;
 #[derive(Drop)]
 pub struct LegalSource<'a, T: Source> {
     source: &'a T,
+    // Asked once, when it is made: a source need not have it at hand.
+    points: usize,
 }
 
 impl<'a, T: Source> Model for LegalSource<'a, T> {
@@ -17,7 +19,7 @@ impl<'a, T: Source> Model for LegalSource<'a, T> {
 
     ghost view = { λ s. T.Source.means s.source.now };
 
-    ghost invariant = { λ s. Legal T.Span.Span.kind (T.Source.means s.source.now) };
+    ghost invariant = { λ s. Legal T.Span.Span.kind (T.Source.means s.source.now) × (s.points ≡ (T.Source.means s.source.now).points) };
 }
 
 impl<'a, T: Source> LegalSource<'a, T> {
@@ -25,7 +27,10 @@ impl<'a, T: Source> LegalSource<'a, T> {
         requires { Legal T.Span.Span.kind (T.Source.means source.now) }
         ensures { result ≡ T.Source.means source.now }
     {
-        LegalSource { source }
+        LegalSource {
+            source,
+            points: source.points(),
+        }
     }
 
     // The source itself, and that its network is legal.
@@ -40,7 +45,7 @@ impl<'a, T: Source> LegalSource<'a, T> {
         ensures points { result ≡ self.now.points }
         ensures legal { Legal T.Span.Span.kind self.now }
     {
-        self.source.points()
+        self.points
     }
 
     pub fn conditions(&self) -> usize

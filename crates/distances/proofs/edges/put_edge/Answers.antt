@@ -9,14 +9,13 @@ returns g c =
     let n = c.args.source.now.points in
     let is = c.points.ensures.points in
     let asked = c.get-asked.ensures in
-    let N = g.T.Source.means c.get-asked.result.now in
-    let there : (leaves N c.args.edge < n) × (reaches N c.args.edge < n) =
-    rw asked.means (edge_there c.args.source.now c.args.edge asked.legal c.requires.there) in
-    let t : Put K n c.leaves.result c.reaches.result c.code.result c.weight.result
+    let there : (leaves c.args.source.now c.args.edge < n) × (reaches c.args.source.now c.args.edge < n) =
+    edge_there c.args.source.now c.args.edge asked.legal c.requires.there in
+    let t : Put K n c.args.from c.args.to c.code.result c.weight.result
     c.args.matrix.now c.improve.new.matrix c.args.links.now c.improve.new.links = record {
       at = c.place-at.result;
-      row_there = omega (arith, there.0, c.leaves.ensures);
-      column_there = omega (arith, there.1, c.reaches.ensures);
+      row_there = omega (arith, there.0, c.requires.points.0);
+      column_there = omega (arith, there.1, c.requires.points.1);
       room = omega arith;
       room_beside = omega arith;
       at_is = rw is at c.place-at.ensures.place;
@@ -24,6 +23,6 @@ returns g c =
       links_are = c.improve.ensures.links;
     } in
     record {
-      filled = λ edges f. rw asked.means at (same_edge K n edges c.leaves.ensures c.reaches.ensures c.code.ensures c.weight.ensures (put_filled K n t edges f));
+      filled = λ edges f. same_edge K n edges c.requires.points.0 c.requires.points.1 c.code.ensures (rw asked.means at c.weight.ensures) (put_filled K n t edges f);
       rest = put_rest K n t;
     }
