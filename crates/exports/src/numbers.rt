@@ -48,6 +48,13 @@ impl<'a, S: Spelled> Numbers<'a, S> {
         }
     }
 
+    // How many conditions there are; what is left over means none.
+    fn count(&self) -> usize
+        ensures { result ≡ length (numbers_network S.Spelled.spelling self.now.points self.now.numbers.now).conditions }
+    {
+        self.numbers.len() / of_condition::<S>()
+    }
+
     // The numbers of condition k, if it is there; what is left over means none.
     fn condition(&self, k: usize) -> Option<&'a [i64]>
         ensures { MatchOption result (Absent S.Spelled.spelling self.now.points self.now.numbers.now k)
@@ -69,7 +76,7 @@ impl<S: Spelled> Source for Numbers<'_, S> {
     }
 
     fn conditions(&self) -> usize {
-        self.numbers.len() / of_condition::<S>()
+        self.count()
     }
 
     fn from(&self, k: usize) -> usize {

@@ -1,5 +1,6 @@
 // The selection layer: of each condition of the source below only the window that is selected for it.
-ghost use Rattle.std.specs.Prelude.{◌≡◌, ◌<◌, None, refl};
+ghost use Rattle.std.specs.Prelude.{◌≡◌, ◌<◌, length, None, refl};
+ghost use Rattle.networks.specs.Network.{condition_at};
 ghost use Rattle.networks.specs.Steps.{number_at};
 ghost use Rattle.networks.specs.Selection.{selected};
 ghost use Rattle.layers.specs.Alike.{selected_points};
@@ -34,6 +35,14 @@ impl Selection {
         self.windows.get(k).copied().map(usize::from)
     }
 
+    // How many windows condition k keeps: one where the selected one is there, else none.
+    fn kept_windows<T: Source>(&self, under: &T, k: usize) -> usize
+        ensures { result ≡ length (condition_at (selected (T.Source.means under.now) self.now.windows) k).windows }
+    {
+        let kept = self.number(k).is_some_and(|n| n < under.windows(k));
+        usize::from(kept)
+    }
+
     // The number of the window below that is window w of condition k under the layer, where condition k has a number and w is 0.
     fn kept_window(&self, k: usize, w: usize) -> Option<usize>
         ensures first { w ≡ 0 → result ≡ number_at self.now.windows k }
@@ -58,10 +67,8 @@ impl<T: Source> Rule<T> for Selection {
 
     ghost same_to = { λ r N k. (selected_points N r.windows k).same_to };
 
-    // One where the selected one is there, else none.
     fn windows(&self, under: &T, k: usize) -> usize {
-        let kept = self.number(k).is_some_and(|n| n < under.windows(k));
-        usize::from(kept)
+        self.kept_windows(under, k)
     }
 
     fn low(&self, under: &T, k: usize, w: usize) -> Option<T::Span> {

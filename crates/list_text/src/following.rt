@@ -22,6 +22,7 @@ impl Iterator for Following<'_> {
 
     ghost remaining = { λ s. at_most (length (ahead s.reader)) };
 
+    #[inline(always)]
     fn next(&mut self) -> Option<Row<Minutes>> {
         let (row, after) = self.reader.next_row(self.pick)?;
         self.reader = after;

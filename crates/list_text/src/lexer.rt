@@ -10,6 +10,7 @@ use crate::token::{Lexeme, Mark, Token};
 
 impl<'a> Reader<'a> {
     // The token that begins here, where no blank stands, and the place behind it.
+    #[inline(always)]
     fn token(self) -> (Token<'a>, usize)
         requires { (self.at < length self.text.now) × (blank (slice_index self.text.now self.at) ≡ false) }
         ensures cut { Cut self.entry.text.now self.entry.at result.0 result.1 }
@@ -40,6 +41,7 @@ impl<'a> Reader<'a> {
     }
 
     // The next token from here on.
+    #[inline(always)]
     pub(crate) fn next(self) -> Lexeme<'a>
         ensures { Lexed self.entry result }
     {

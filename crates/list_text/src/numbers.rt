@@ -30,6 +30,7 @@ fn value(digits: &[u8], place: usize) -> Result<u64, Misread>
 
 impl<'a> Reader<'a> {
     // The reader behind the mark, which has to come next.
+    #[inline(always)]
     pub(crate) fn expect(self, mark: Mark) -> Result<Reader<'a>, Misread>
         ensures { (k : State) → Passes self.entry (expects mark k) k result }
     {
@@ -42,6 +43,7 @@ impl<'a> Reader<'a> {
     }
 
     // A number without a sign.
+    #[inline(always)]
     pub(crate) fn natural(self) -> Result<(usize, Reader<'a>), Misread>
         ensures { (k : Bool → ℕ → State) → Reads self.entry (number false k) (λ n. expects Comma (k false n)) result }
     {
@@ -57,6 +59,7 @@ impl<'a> Reader<'a> {
     }
 
     // A number with a minus or without.
+    #[inline(always)]
     pub(crate) fn integer(self) -> Result<(i64, Reader<'a>), Misread>
         ensures { (k : ℤ → State) → Reads self.entry (number true (λ negative n. k (with_sign negative n))) (λ z. expects Close (k z)) result }
     {

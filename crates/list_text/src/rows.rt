@@ -12,6 +12,7 @@ use spans::Minutes;
 
 // The row with the window in one of its four places; the row itself where it has no such place.
 // Kept as a match over the places: `Row` has four fields and no array, for the reason that stands beside it.
+#[inline(always)]
 fn with_window(row: Row<Minutes>, slot: usize, w: Window<Minutes>) -> Row<Minutes>
     ensures from { result.from ≡ row.from }
     ensures to { result.to ≡ row.to }
@@ -27,6 +28,7 @@ fn with_window(row: Row<Minutes>, slot: usize, w: Window<Minutes>) -> Row<Minute
 }
 
 // The row with one window more, kept where it is one of the four from `pick` on.
+#[inline(always)]
 fn one_more(row: Row<Minutes>, pick: usize, w: Window<Minutes>) -> Row<Minutes>
     requires { row.count < 65536 }
     ensures { OneMore row pick w result }
@@ -41,6 +43,7 @@ fn one_more(row: Row<Minutes>, pick: usize, w: Window<Minutes>) -> Row<Minutes>
 
 impl<'a> Reader<'a> {
     // The windows behind `[`, up to and with `]`: their number, and the four from `pick` on, in a row from `i` to `j`.
+    #[inline(always)]
     fn windows(self, i: usize, j: usize, pick: usize) -> Result<(Row<Minutes>, Reader<'a>), Misread>
         ensures { ReadsWindows self.entry i j pick result }
     {
@@ -69,6 +72,7 @@ impl<'a> Reader<'a> {
     }
 
     // A row behind its first bracket, with its windows from `pick` on.
+    #[inline(always)]
     fn row(self, pick: usize) -> Result<(Row<Minutes>, Reader<'a>), Misread>
         ensures { ReadsRow self.entry pick result }
     {
@@ -132,6 +136,7 @@ impl<'a> Reader<'a> {
     }
 
     // The row behind the next semicolon, with its windows from `pick` on, and the reader behind it; none where no row follows.
+    #[inline(always)]
     pub(crate) fn next_row(self, pick: usize) -> Option<(Row<Minutes>, Reader<'a>)>
         ensures { NextRow self.entry pick result }
     {

@@ -45,6 +45,35 @@ impl ListText<'_> {
         };
         rows.nth(k).unwrap_or(Row::new(0, 0, &[]))
     }
+
+    // How many rows there are.
+    fn count(&self) -> usize
+        ensures { result ≡ length (conditions_from self.now.rows.text.now self.now.rows.at) }
+    {
+        let rows = Following {
+            reader: self.rows,
+            pick: 0,
+        };
+        rows.count()
+    }
+
+    // The conditions from number `first` on, copied into the rows; how many.
+    fn copied(&self, first: usize, rows: &mut [Row<Minutes>]) -> usize
+        ensures { Filled (conditions_from self.now.rows.text.now self.now.rows.at) first rows.old rows.new result }
+    {
+        let mut following = Following {
+            reader: self.rows,
+            pick: 0,
+        }
+        .skip(first);
+        for (filled, slot) in rows.iter_mut().enumerate() {
+            let Some(row) = following.next() else {
+                return filled;
+            };
+            *slot = row;
+        }
+        rows.len()
+    }
 }
 
 impl<'a> ListText<'a> {
@@ -62,18 +91,7 @@ impl<'a> ListText<'a> {
     pub fn fill(&self, first: usize, rows: &mut [Row<Minutes>]) -> usize
         ensures { Filled (⟦<ListText<'a> as Source>⟧.means self.now).conditions first rows.old rows.new result }
     {
-        let mut following = Following {
-            reader: self.rows,
-            pick: 0,
-        }
-        .skip(first);
-        for (filled, slot) in rows.iter_mut().enumerate() {
-            let Some(row) = following.next() else {
-                return filled;
-            };
-            *slot = row;
-        }
-        rows.len()
+        self.copied(first, rows)
     }
 }
 
@@ -88,11 +106,7 @@ impl Source for ListText<'_> {
     }
 
     fn conditions(&self) -> usize {
-        let rows = Following {
-            reader: self.rows,
-            pick: 0,
-        };
-        rows.count()
+        self.count()
     }
 
     fn from(&self, k: usize) -> usize {

@@ -41,12 +41,14 @@ impl Lexeme<'_> {
     ghost use Rattle.list_text.specs.declared.token.Token.TheVariants.{Finish};
 
     // Whether it is the mark.
+    #[inline(always)]
     pub fn is(self, mark: Mark) -> bool
         ensures { Decides result (mark_of self.entry.token ≡ Some mark) }
     {
         matches!(self.token, Token::Bracket(m, _) if m == mark)
     }
 
+    #[inline(always)]
     pub fn is_finish(self) -> bool
         ensures { Decides result (self.entry.token ≡ Finish) }
     {

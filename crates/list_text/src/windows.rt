@@ -31,6 +31,7 @@ fn fault_in_word(w: &[u8]) -> usize
 
 impl<'a> Reader<'a> {
     // An end: `E(`number`)`, or `Inf` for a missing one.
+    #[inline(always)]
     fn end(self) -> Result<(Option<Minutes>, Reader<'a>), Misread>
         ensures { (m : MarkOf) (k : OptionOf MinutesOf → State) → Reads self.entry (at_end (λ o. expects m (k o))) (λ o. expects m (k o)) result }
     {
@@ -53,6 +54,7 @@ impl<'a> Reader<'a> {
     }
 
     // A window behind its first bracket.
+    #[inline(always)]
     pub(crate) fn window(self) -> Result<(Window<Minutes>, Reader<'a>), Misread>
         ensures { (ws : List (WindowOf MinutesOf)) (k : List (WindowOf MinutesOf) → State) → Reads self.entry (in_window ws k) (λ w. windows_more (ws ++ (w ∷ [])) k) result }
     {

@@ -1,6 +1,6 @@
 use Rattle.std.proofs.Common.{rules, ◌∙◌}
 use Rattle.layers.proofs.Selections.{selected_count}
-use Rattle.layers.proofs.selected.SelectionRule.windows.Goals as goal
+use Rattle.layers.proofs.selected.Selection.kept_windows.Goals as goal
 
 pub returns : goal.returns
 returns g c =

@@ -1,6 +1,6 @@
 use Rattle.list_text.proofs.Texts.{readable}
 use Rattle.list_text.proofs.Fills.{gives_rows, counted}
-use Rattle.list_text.proofs.source.ListTextSource.conditions.Goals as goal
+use Rattle.list_text.proofs.text.ListText.count.Goals as goal
 
 pub returns : goal.returns
 returns c =

@@ -1,5 +1,5 @@
 use Rattle.list_text.proofs.Fills.{wanted, FillSoFar}
-use Rattle.list_text.proofs.text.ListText.fill.Given as goal
+use Rattle.list_text.proofs.text.ListText.copied.Given as goal
 
 abbrev pub invariant-loop-filled : goal.invariant-loop-filled
 invariant-loop-filled l =

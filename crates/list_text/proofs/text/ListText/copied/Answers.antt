@@ -4,7 +4,7 @@ use Rattle.list_text.specs.Filling.{Filled}
 use Rattle.list_text.specs.Reading.{conditions_from}
 use Rattle.list_text.proofs.Texts.{readable}
 use Rattle.list_text.proofs.Fills.{fill_none, fill_more, none_left, filled_all}
-use Rattle.list_text.proofs.text.ListText.fill.Goals as goal
+use Rattle.list_text.proofs.text.ListText.copied.Goals as goal
 
 pub loop-filled-init : goal.loop-filled-init
 loop-filled-init c = (tt, tt, fill_none c.args.self.now.rows c.args.first c.args.rows.now _ c.skip-following.ensures.source c.skip-following.ensures.count (readable c.args.self.now.rows c.args.self.now.readable))
