@@ -1,6 +1,8 @@
--- The checks go through a list by its numbers. Assumes nothing.
-use Rattle.std.proofs.Common.{◌≡◌, ℕ, suc, ◌+◌, ◌<◌, Bool, true, false, cond, ◌&&◌, ltb, List, [], ◌∷◌, length, get_or, drop, filter, sym, refl, ap, ◌∙◌, arith}
+-- The checks go through a list by its numbers. For a loop that goes from the front: one step, and the end. Assumes nothing.
+use Rattle.std.proofs.Common.{◌≡◌, ℕ, suc, ◌+◌, ◌<◌, ◌≤◌, Bool, true, false, cond, ◌&&◌, ltb, List, [], ◌∷◌, length, get_or, drop, filter, sym, refl, ap, ◌∙◌, arith}
 use Rattle.std.specs.List.{list_all, range_with_len}
+use Rattle.std.proofs.lemmas.List.{at_drop_more, at_drop_all}
+use Rattle.std.proofs.lemmas.Bool.{and_left}
 use Rattle.spans.specs.Kind.{Kind}
 use Rattle.networks.specs.declared.window.Window.{Window}
 use Rattle.networks.specs.Network.{Condition, no_condition}
@@ -27,6 +29,25 @@ module _ {X : Type 0} (F : List X → Bool) (P : X → List X → Bool) (end : F
           let zeroth : 0 + i ≡ i = omega arith in
           let next : i + 1 ≡ suc i = omega arith in
           ap test zeroth ∙ same i h ∙ ap (λ m. P (get_or xs i d) (drop m xs)) next
+
+-- ---- a test of each element and of what comes after it, gone through from the front
+pub and_true : (a b : Bool) → a ≡ true → (a && b) ≡ b
+and_true a b e = rw e
+
+module _ {X : Type 0} (F : List X → Bool) (P : X → List X → Bool) (end : F [] ≡ true)
+    (step : (x : X) (xs : List X) → F (x ∷ xs) ≡ (P x xs && F xs))
+    (xs : List X) (i : ℕ) (d : X) (so_far : F (drop i xs) ≡ F xs) where
+  here : i < length xs → F (drop i xs) ≡ (P (get_or xs i d) (drop (i + 1) xs) && F (drop (i + 1) xs))
+  here h = at_drop_more F xs i d h ∙ step _ _
+
+  pub passed : i < length xs → P (get_or xs i d) (drop (i + 1) xs) ≡ true → F (drop (i + 1) xs) ≡ F xs
+  passed h t = sym (and_true _ _ t) ∙ sym (here h) ∙ so_far
+
+  pub failed : i < length xs → P (get_or xs i d) (drop (i + 1) xs) ≡ false → false ≡ F xs
+  failed h t = sym (and_left _ _ t) ∙ sym (here h) ∙ so_far
+
+  pub all_passed : length xs ≤ i → true ≡ F xs
+  all_passed h = sym end ∙ sym (at_drop_all F xs i h) ∙ so_far
 
 -- ---- the tests of a window
 module _ {S : Type 0} (K : Kind S) where
